@@ -1,0 +1,10 @@
+pub mod Steps
+pub mod Scanning
+pub mod Layering
+pub mod Fronts
+pub mod Calling
+pub mod Running
+pub mod Stacking
+pub mod Towers
+pub mod Paying
+pub mod StackCalls

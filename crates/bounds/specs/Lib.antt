@@ -1,0 +1,4 @@
+pub mod LayerLaw
+pub mod Scans
+pub mod Stacks
+pub mod StackLaws
