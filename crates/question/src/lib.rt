@@ -1,0 +1,2 @@
+// One whole question: begin, advance as far as the store can take it, verdict, trace and settle.
+pub mod ask;
