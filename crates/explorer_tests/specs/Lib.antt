@@ -1,0 +1,4 @@
+pub mod Counters
+pub mod CountersLaw
+pub mod Wides
+pub mod Held
