@@ -5,6 +5,8 @@ mod altered;
 #[cfg(test)]
 mod asker;
 #[cfg(test)]
+mod begin_refusals;
+#[cfg(test)]
 mod counter;
 #[cfg(test)]
 mod desk;
