@@ -1,3 +1,5 @@
+#![tactic(auto)]
+
 // Layers over a machine, machines themselves: one bound, or a stack of them.
 pub mod bounded;
 mod front;

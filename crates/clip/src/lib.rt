@@ -1,3 +1,5 @@
+#![tactic(auto)]
+
 // A sky monitor whose reading clips at the top of its scale, as a machine: an example written by hand.
 pub mod clip_watch;
 pub mod field;

@@ -1,3 +1,5 @@
+#![tactic(auto)]
+
 // Searches a night of the clip watch: with the handler posted above the picker, with the mistake, and with the mistake
 // under bounds on delays. It prints each verdict with its counts and, where the goal is reached, the run that shows it.
 use bounds::bounded::bounded;

@@ -1,3 +1,5 @@
+#![tactic(auto)]
+
 // Configurations of a program: frames, stacks, pending tasks, and the lines that tell them.
 mod ascending;
 mod blank;

@@ -1,3 +1,5 @@
+#![tactic(auto)]
+
 // Tests of the explorer: each verdict, each refusal and their order, tickets, altered stores, grants, traces.
 // Expected values are worked out by hand from the rules in docs/explorer.md.
 #[cfg(test)]

@@ -1,1 +1,3 @@
+#![tactic(auto)]
+
 // The grammar of programs of prioritized tasks.

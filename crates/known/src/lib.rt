@@ -1,3 +1,5 @@
+#![tactic(auto)]
+
 // Known programs: small ones whose ends were worked out by hand, for tests and examples.
 pub mod bumps;
 pub mod error;

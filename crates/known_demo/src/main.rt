@@ -1,3 +1,5 @@
+#![tactic(auto)]
+
 // Asks about the known programs, and prints for each its verdict with the counts, and for two of them the run to the goal.
 use explorer::explorer::Explorer;
 use explorer::report::Report;

@@ -1,3 +1,5 @@
+#![tactic(auto)]
+
 // The words, numbers and marks of a text.
 pub mod class;
 pub mod fault;

@@ -1,3 +1,5 @@
+#![tactic(auto)]
+
 // Machines: lines of bytes, the steps between them, and what the calls of a machine tell.
 pub mod lent;
 pub mod machine;

@@ -1,3 +1,5 @@
+#![tactic(auto)]
+
 // Programs of prioritized tasks as tables: places with their statements, expressions, procedures, start and goal.
 mod edits;
 mod entries;

@@ -1,3 +1,5 @@
+#![tactic(auto)]
+
 // Tests of the program machine on the known programs: steps, unlawful and tight lines, refused tables, kinds, and whole questions.
 // Expected values are worked out by hand from the rules of the steps and of the line.
 #[cfg(test)]

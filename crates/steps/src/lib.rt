@@ -1,3 +1,5 @@
+#![tactic(auto)]
+
 // The program machine: the steps that a program's configurations have, and the machine that tells them.
 mod after;
 mod change;

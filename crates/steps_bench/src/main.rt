@@ -1,3 +1,5 @@
+#![tactic(auto)]
+
 // Makes as many step calls as its argument says, over the lines of the known program bumps, so that the time it takes
 // tells how many step calls a second there are. It prints their number and a checksum of what they told.
 use anyhow::anyhow;
