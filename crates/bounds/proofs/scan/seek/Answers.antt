@@ -36,5 +36,5 @@ pub returns : goal.returns
 returns g c =
     let p : Test = g.S.Sieve.passes c.args.sieve.now in
     let ss : List Step = (g.M.Machine.meaning c.args.machine.now).steps c.args.line.now in
-    let le = seek_end p ss c.loop-kind.at c.loop-kind.left c.args.number c.in-default.ensures.told c.loop-kind.invariant in
+    let le = seek_end p ss c.loop-kind.at c.loop-kind.left c.args.number c.in_default.ensures.told c.loop-kind.invariant in
     record { told = told_past (sifted p ss) c.args.number le; written = λ lt. absurd (omega (arith, lt, le)) }

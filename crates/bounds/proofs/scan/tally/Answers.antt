@@ -20,4 +20,4 @@ pub returns : goal.returns
 returns g c =
     let p : Test = g.S.Sieve.passes c.args.sieve.now in
     let ss : List Step = (g.M.Machine.meaning c.args.machine.now).steps c.args.line.now in
-    omega (arith, c.loop-kind.invariant.0, ap length (more_none p ss c.loop-kind.at c.in-default.ensures.told))
+    omega (arith, c.loop-kind.invariant.0, ap length (more_none p ss c.loop-kind.at c.in_default.ensures.told))

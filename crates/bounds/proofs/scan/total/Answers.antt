@@ -9,6 +9,6 @@ returns-in-Ok g c =
     let p : Test = g.S.Sieve.passes c.args.sieve.now in
     let l = c.args.line.now in
     let bytes : (i : ℕ) → get_or l i 0 < 256 = search rules in
-    let pass = g.S.Sieve.sound c.args.sieve.now (sym c.if-not-keeps-all.ensures) in
+    let pass = g.S.Sieve.sound c.args.sieve.now (sym c.if-not-keeps_all.ensures) in
     count_ok m l c.in-Ok.all c.requires.narrow c.requires.long c.in-Ok.ensures
     ∙ ap length (sym (all_kept m (g.M.Machine.lawful c.args.machine.now) l c.requires.narrow c.requires.long bytes p pass))

@@ -6,7 +6,7 @@ use Rattle.configuration.proofs.write_frames.write_frames.Goals.{then-n-depth, e
 pub loop-n-preserved : goal.loop-n-preserved
 loop-n-preserved c =
     elim c.if-n-depth.branch [
-      | then-n-depth w ↦ frame_put c.loop-n.n c.args.depth c.args.frames.now c.loop-n.out c.if-n-depth.out w.saturating-add.result _ w.if-n-depth.true c.loop-n-test.true (omega arith) w.saturating-add.ensures w.out-is c.loop-n.invariant
+      | then-n-depth w ↦ frame_put c.loop-n.n c.args.depth c.args.frames.now c.loop-n.out c.if-n-depth.out w.saturating_add.result _ w.if-n-depth.true c.loop-n-test.true (omega arith) w.saturating_add.ensures w.out-is c.loop-n.invariant
       | else-n-depth w ↦ zeros_put c.loop-n.n c.args.depth c.args.frames.now c.loop-n.out c.if-n-depth.out _ w.if-n-depth.false c.loop-n-test.true (omega arith) w.out-is c.loop-n.invariant
     ]
 

@@ -8,11 +8,11 @@ use Rattle.configuration.proofs.write_tasks.write_tasks.Goals.{then-n-pending, e
 pub loop-n-preserved : goal.loop-n-preserved
 loop-n-preserved c =
     let u = c.index-tasks-n.result in
-    let e : length c.write-frames.new.out ≡ 9 = search (rules, overwrites) in
+    let e : length c.write_frames.new.out ≡ 9 = search (rules, overwrites) in
     let f : length u.frames ≡ 3 = omega arith in
     elim c.if-n-pending.branch [
-      | then-n-pending w ↦ task_put c.loop-n.n c.args.pending _ c.if-n-pending.depth c.args.tasks.now u c.loop-n.out c.write-frames.new.out _ w.if-n-pending.true c.loop-n-test.true (omega arith) (omega arith) e c.index-tasks-n.is w.depth-is f c.write-frames.ensures c.loop-n.invariant
-      | else-n-pending w ↦ none_put c.loop-n.n c.args.pending _ c.if-n-pending.depth c.args.tasks.now u c.loop-n.out c.write-frames.new.out _ w.if-n-pending.false c.loop-n-test.true (omega arith) (omega arith) e w.depth-is f c.write-frames.ensures c.loop-n.invariant
+      | then-n-pending w ↦ task_put c.loop-n.n c.args.pending _ c.if-n-pending.depth c.args.tasks.now u c.loop-n.out c.write_frames.new.out _ w.if-n-pending.true c.loop-n-test.true (omega arith) (omega arith) e c.index-tasks-n.is w.depth-is f c.write_frames.ensures c.loop-n.invariant
+      | else-n-pending w ↦ none_put c.loop-n.n c.args.pending _ c.if-n-pending.depth c.args.tasks.now u c.loop-n.out c.write_frames.new.out _ w.if-n-pending.false c.loop-n-test.true (omega arith) (omega arith) e w.depth-is f c.write_frames.ensures c.loop-n.invariant
     ]
 
 pub returns : goal.returns

@@ -4,6 +4,6 @@ use Rattle.lexer.specs.Classes.{class}
 use Rattle.lexer.specs.Table.{place, class_number}
 use Rattle.lexer.proofs.class.class_of.Goals as goal
 
-pub looked-up-requires : goal.looked-up-requires
+pub looked_up-requires : goal.looked_up-requires
 unfolding class place class_number
-looked-up-requires c = record { whole = refl; right = refl }
+looked_up-requires c = record { whole = refl; right = refl }

@@ -32,5 +32,5 @@ returns-in-Ok-goal g c =
     let a = served m (length line) (omega (arith, w, h)) (omega (arith, w, x)) in
     let b = served m spare (omega (arith, w, h)) (omega (arith, w, y)) in
     let after = served m (length c.follow.new.line) (omega (arith, w, h)) (omega (arith, w, x, c.follow.auto.line, c.start.auto.out)) in
-    let u = replay_answer m ks line c.start.new.out c.follow.new.line spare c.in-Ok-goal.goal None a b c.start.ensures.written c.in-default-follow.ensures.stuck c.follow.ensures.left (λ _. goal_ok m c.follow.new.line c.in-Ok-goal.goal after c.in-Ok-goal.ensures) in
+    let u = replay_answer m ks line c.start.new.out c.follow.new.line spare c.in-Ok-goal.goal None a b c.start.ensures.written c.in_default-follow.ensures.stuck c.follow.ensures.left (λ _. goal_ok m c.follow.new.line c.in-Ok-goal.goal after c.in-Ok-goal.ensures) in
     record { told = u.0; left = u.1; law = replay_law m ks line spare _ _ u.0 u.1 }

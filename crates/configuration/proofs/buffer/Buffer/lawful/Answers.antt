@@ -9,13 +9,13 @@ pub returns-then-not-lawful : goal.returns-then-not-lawful
 unfolding lawful_buffer
 returns-then-not-lawful c = first_failed _ _ c.if-not-lawful.ensures
 
-pub returns-then-lawful-tasks : goal.returns-then-lawful-tasks
+pub returns-then-lawful_tasks : goal.returns-then-lawful_tasks
 unfolding lawful_buffer
-returns-then-lawful-tasks c =
+returns-then-lawful_tasks c =
     let x = c.args.self.now in
-    first_passed _ _ _ c.if-not-lawful.ensures (first_passed _ _ _ (tasks_test (list_all (lawful_task (told c.args.program.now))) x _ _ (omega arith) c.if-lawful-tasks.ensures) (tasks_test ascends x _ _ (omega arith) c.ascending.ensures))
+    first_passed _ _ _ c.if-not-lawful.ensures (first_passed _ _ _ (tasks_test (list_all (lawful_task (told c.args.program.now))) x _ _ (omega arith) c.if-lawful_tasks.ensures) (tasks_test ascends x _ _ (omega arith) c.ascending.ensures))
 
-pub returns-else-lawful-tasks : goal.returns-else-lawful-tasks
+pub returns-else-lawful_tasks : goal.returns-else-lawful_tasks
 unfolding lawful_buffer
-returns-else-lawful-tasks c =
-    first_passed _ _ _ c.if-not-lawful.ensures (c.if-lawful-tasks.false ∙ first_failed _ _ (tasks_test (list_all (lawful_task (told c.args.program.now))) c.args.self.now _ _ (omega arith) c.if-lawful-tasks.ensures))
+returns-else-lawful_tasks c =
+    first_passed _ _ _ c.if-not-lawful.ensures (c.if-lawful_tasks.false ∙ first_failed _ _ (tasks_test (list_all (lawful_task (told c.args.program.now))) c.args.self.now _ _ (omega arith) c.if-lawful_tasks.ensures))

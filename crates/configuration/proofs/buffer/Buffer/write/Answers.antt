@@ -5,4 +5,4 @@ use Rattle.configuration.proofs.buffer.Buffer.write.Goals as goal
 
 pub returns : goal.returns
 returns c =
-    buffer_put c.args.self.now c.args.out.now c.write-frames.new.out c.write-tasks.new.out (omega arith) (omega arith) c.requires (search (rules, overwrites)) c.write-frames.ensures c.write-tasks.ensures
+    buffer_put c.args.self.now c.args.out.now c.write_frames.new.out c.write_tasks.new.out (omega arith) (omega arith) c.requires (search (rules, overwrites)) c.write_frames.ensures c.write_tasks.ensures

@@ -9,23 +9,23 @@ pub bounds-out-0 : goal.bounds-out-0
 unfolding width
 bounds-out-0 c = search rules
 
-pub slice-bounds-copy-from-slice-end : goal.slice-bounds-copy-from-slice-end
+pub slice_bounds-copy_from_slice-end : goal.slice_bounds-copy_from_slice-end
 unfolding width
-slice-bounds-copy-from-slice-end c = search rules
+slice_bounds-copy_from_slice-end c = search rules
 
-pub slice-bounds-write-buffers-count-2 : goal.slice-bounds-write-buffers-count-2
+pub slice_bounds-write_buffers-count-2 : goal.slice_bounds-write_buffers-count-2
 unfolding width
-slice-bounds-write-buffers-count-2 c = search (rules, overwrites)
+slice_bounds-write_buffers-count-2 c = search (rules, overwrites)
 
-pub slice-bounds-write-buffers-start-2 : goal.slice-bounds-write-buffers-start-2
+pub slice_bounds-write_buffers-start-2 : goal.slice_bounds-write_buffers-start-2
 unfolding width
-slice-bounds-write-buffers-start-2 c = search (rules, overwrites)
+slice_bounds-write_buffers-start-2 c = search (rules, overwrites)
 
-pub write-buffers-requires : goal.write-buffers-requires
+pub write_buffers-requires : goal.write_buffers-requires
 unfolding width
-write-buffers-requires c = record { few = search (rules, overwrites); long = search (rules, overwrites) }
+write_buffers-requires c = record { few = search (rules, overwrites); long = search (rules, overwrites) }
 
 pub returns : goal.returns
 unfolding width
 returns c =
-    line_put (told c.args.program.now) c.args.self.now c.globals-globals.result _ _ _ _ c.args.out.now c.copy-from-slice.new.self c.write-buffers.new.out (omega arith) (omega arith) (search (rules, overwrites)) (omega arith) refl c.copy-from-slice.ensures.after c.write-buffers.ensures
+    line_put (told c.args.program.now) c.args.self.now c.globals-globals.result _ _ _ _ c.args.out.now c.copy_from_slice.new.self c.write_buffers.new.out (omega arith) (omega arith) (search (rules, overwrites)) (omega arith) refl c.copy_from_slice.ensures.after c.write_buffers.ensures

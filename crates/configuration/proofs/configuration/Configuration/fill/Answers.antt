@@ -9,22 +9,22 @@ pub bounds-line-0 : goal.bounds-line-0
 unfolding width
 bounds-line-0 c = search rules
 
-pub slice-bounds-copy-from-slice-end-2 : goal.slice-bounds-copy-from-slice-end-2
+pub slice_bounds-copy_from_slice-end-2 : goal.slice_bounds-copy_from_slice-end-2
 unfolding width
-slice-bounds-copy-from-slice-end-2 c = search rules
+slice_bounds-copy_from_slice-end-2 c = search rules
 
-pub slice-bounds-read-buffers-count : goal.slice-bounds-read-buffers-count
+pub slice_bounds-read_buffers-count : goal.slice_bounds-read_buffers-count
 unfolding width
-slice-bounds-read-buffers-count c = omega arith
+slice_bounds-read_buffers-count c = omega arith
 
-pub slice-bounds-read-buffers-start : goal.slice-bounds-read-buffers-start
+pub slice_bounds-read_buffers-start : goal.slice_bounds-read_buffers-start
 unfolding width
-slice-bounds-read-buffers-start c = search rules
+slice_bounds-read_buffers-start c = search rules
 
-pub read-buffers-requires : goal.read-buffers-requires
+pub read_buffers-requires : goal.read_buffers-requires
 unfolding width
-read-buffers-requires c = record { few = search (rules, overwrites); long = search (rules, overwrites) }
+read_buffers-requires c = record { few = search (rules, overwrites); long = search (rules, overwrites) }
 
 pub returns : goal.returns
 returns c =
-    told_whole (told c.args.program.now) c.globals-globals.result _ _ c.args.line.now c.copy-from-slice.new.self _ c.read-buffers.new.out _ c.globals-globals.ensures.told (omega arith) (search (rules, overwrites)) (search (rules, overwrites)) (search (rules, overwrites)) c.copy-from-slice.ensures.after c.read-buffers.ensures
+    told_whole (told c.args.program.now) c.globals-globals.result _ _ c.args.line.now c.copy_from_slice.new.self _ c.read_buffers.new.out _ c.globals-globals.ensures.told (omega arith) (search (rules, overwrites)) (search (rules, overwrites)) (search (rules, overwrites)) c.copy_from_slice.ensures.after c.read_buffers.ensures

@@ -10,14 +10,14 @@ unfolding lawful_config
 returns-then-self-buffers c =
     first_failed _ _ (sym (le-ltb c.args.self.now.active (told c.args.program.now).buffers (omega arith)))
 
-pub returns-then-all-values : goal.returns-then-all-values
+pub returns-then-all_values : goal.returns-then-all_values
 unfolding lawful_config
-returns-then-all-values c =
+returns-then-all_values c =
     let t = told c.args.program.now in
-    first_passed _ _ _ (sym (lt-ltb c.args.self.now.active t.buffers (omega arith))) (first_passed _ _ _ (globals_test t c.args.self.now c.values.result _ _ c.values.ensures.told (omega arith) c.if-all-values.ensures) (buffers_test t c.args.self.now _ _ (omega arith) c.lawful-buffers.ensures))
+    first_passed _ _ _ (sym (lt-ltb c.args.self.now.active t.buffers (omega arith))) (first_passed _ _ _ (globals_test t c.args.self.now c.values.result _ _ c.values.ensures.told (omega arith) c.if-all_values.ensures) (buffers_test t c.args.self.now _ _ (omega arith) c.lawful_buffers.ensures))
 
-pub returns-else-all-values : goal.returns-else-all-values
+pub returns-else-all_values : goal.returns-else-all_values
 unfolding lawful_config
-returns-else-all-values c =
+returns-else-all_values c =
     let t = told c.args.program.now in
-    first_passed _ _ _ (sym (lt-ltb c.args.self.now.active t.buffers (omega arith))) (c.if-all-values.false ∙ first_failed _ _ (globals_test t c.args.self.now c.values.result _ _ c.values.ensures.told (omega arith) c.if-all-values.ensures))
+    first_passed _ _ _ (sym (lt-ltb c.args.self.now.active t.buffers (omega arith))) (c.if-all_values.false ∙ first_failed _ _ (globals_test t c.args.self.now c.values.result _ _ c.values.ensures.told (omega arith) c.if-all_values.ensures))

@@ -4,8 +4,8 @@ use Rattle.std.proofs.lemmas.List.{take_at}
 use Rattle.std.proofs.lemmas.Slice.{overwrites}
 use Rattle.configuration.proofs.configuration.Configuration.writes.Goals as goal
 
-pub slice-bounds-same-end : goal.slice-bounds-same-end
-slice-bounds-same-end c = search (rules, overwrites)
+pub slice_bounds-same-end : goal.slice_bounds-same-end
+slice_bounds-same-end c = search (rules, overwrites)
 
 pub returns : goal.returns
 returns c =

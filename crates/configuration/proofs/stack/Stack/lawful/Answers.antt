@@ -3,10 +3,10 @@ use Rattle.configuration.specs.Tests.{lawful_stack}
 use Rattle.configuration.proofs.CheckAll.{first_passed, first_failed}
 use Rattle.configuration.proofs.stack.Stack.lawful.Goals as goal
 
-pub returns-then-all-ranged : goal.returns-then-all-ranged
+pub returns-then-all_ranged : goal.returns-then-all_ranged
 unfolding lawful_stack
-returns-then-all-ranged c = first_passed _ _ _ c.if-all-ranged.ensures c.all-rest.ensures
+returns-then-all_ranged c = first_passed _ _ _ c.if-all_ranged.ensures c.all_rest.ensures
 
-pub returns-else-all-ranged : goal.returns-else-all-ranged
+pub returns-else-all_ranged : goal.returns-else-all_ranged
 unfolding lawful_stack
-returns-else-all-ranged c = c.if-all-ranged.false ∙ first_failed _ _ c.if-all-ranged.ensures
+returns-else-all_ranged c = c.if-all_ranged.false ∙ first_failed _ _ c.if-all_ranged.ensures

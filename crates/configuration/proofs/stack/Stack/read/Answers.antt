@@ -4,5 +4,5 @@ use Rattle.configuration.proofs.stack.Stack.read.Goals as goal
 
 pub returns : goal.returns
 returns c =
-    topmost_take c.read-frames-depth.result c.read-frames-depth.new.out (omega arith)
-    ∙ ap reverse c.read-frames-depth.ensures.told
+    topmost_take c.read_frames-depth.result c.read_frames-depth.new.out (omega arith)
+    ∙ ap reverse c.read_frames-depth.ensures.told

@@ -9,8 +9,8 @@ uppermost-task-requires c =
     let s = c.args.self.now in
     (omega (arith, run_le (frames_on s), length_topmost s.frames s.depth, c.run-count.ensures), c.if-count-gt3.false)
 
-pub overflow-sub-self : goal.overflow-sub-self
-overflow-sub-self c =
+pub overflow_sub-self : goal.overflow_sub-self
+overflow_sub-self c =
     let s = c.args.self.now in
     omega (arith, run_le (frames_on s), length_topmost s.frames s.depth, c.run-count.ensures)
 

@@ -8,12 +8,12 @@ unfolding lawful_task
 returns-then-self-eq0 c =
     first_failed _ _ (no_topmost c.args.self.now.frames c.args.self.now.depth c.if-self-eq0.true)
 
-pub returns-then-all-ranged : goal.returns-then-all-ranged
+pub returns-then-all_ranged : goal.returns-then-all_ranged
 unfolding lawful_task
-returns-then-all-ranged c =
-    first_passed _ _ _ (some_topmost c.args.self.now.frames c.args.self.now.depth c.if-self-eq0.false) (first_passed _ _ _ c.if-all-ranged.ensures c.all-called.ensures)
+returns-then-all_ranged c =
+    first_passed _ _ _ (some_topmost c.args.self.now.frames c.args.self.now.depth c.if-self-eq0.false) (first_passed _ _ _ c.if-all_ranged.ensures c.all_called.ensures)
 
-pub returns-else-all-ranged : goal.returns-else-all-ranged
+pub returns-else-all_ranged : goal.returns-else-all_ranged
 unfolding lawful_task
-returns-else-all-ranged c =
-    first_passed _ _ _ (some_topmost c.args.self.now.frames c.args.self.now.depth c.if-self-eq0.false) (c.if-all-ranged.false ∙ first_failed _ _ c.if-all-ranged.ensures)
+returns-else-all_ranged c =
+    first_passed _ _ _ (some_topmost c.args.self.now.frames c.args.self.now.depth c.if-self-eq0.false) (c.if-all_ranged.false ∙ first_failed _ _ c.if-all_ranged.ensures)

@@ -6,5 +6,5 @@ use Rattle.configuration.proofs.task.Task.read.Goals as goal
 pub returns : goal.returns
 unfolding task_from
 returns c =
-    topmost_take c.read-frames-depth.result c.read-frames-depth.new.out (omega arith)
-    ∙ ap reverse c.read-frames-depth.ensures.told
+    topmost_take c.read_frames-depth.result c.read_frames-depth.new.out (omega arith)
+    ∙ ap reverse c.read_frames-depth.ensures.told

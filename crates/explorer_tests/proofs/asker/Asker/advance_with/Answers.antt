@@ -3,6 +3,6 @@ use Rattle.explorer.specs.Told.{state}
 use Rattle.explorer_tests.proofs.Holding.{held_advanced}
 use Rattle.explorer_tests.proofs.asker.Asker.advance_with.Goals as goal
 
-pub invariant-of-self : goal.invariant-of-self
-invariant-of-self g c =
+pub invariant_of-self : goal.invariant_of-self
+invariant_of-self g c =
     (held_advanced (state c.args.self.now.explorer) (state c.advance.new.self) _ _ _ _ c.args.self.now.ticket c.advance.ensures.after c.args.self.now.held, tt)

@@ -3,14 +3,14 @@ use Rattle.explorer.specs.Told.{state}
 use Rattle.explorer_tests.proofs.Holding.{taken, same_held, held_refused, passed_on, settled_own}
 use Rattle.explorer_tests.proofs.asker.Asker.settle_with.Goals as goal
 
-pub invariant-of-other : goal.invariant-of-other
-invariant-of-other g c =
+pub invariant_of-other : goal.invariant_of-other
+invariant_of-other g c =
     let e = state c.args.self.now.explorer in
     let f = state c.args.other.now.explorer in
     let t = taken f c.args.other.now.ticket c.in-Some.ticket c.in-Some.ensures.value c.args.other.now.held in
     let own = settled_own (state c.args.self.now.explorer) _ _ c.in-Some.ticket.number (g.M.Machine.meaning c.args.machine.now) (g.S.Store.meaning c.args.store.now) c.in-Ok.ensures.answer in
-    (same_held f c.args.self.now.ticket c.pass-on.new.to c.pass-on.ensures.held (passed_on e f c.in-Some.ticket.number c.args.self.now.ticket own t c.args.self.now.held), tt)
+    (same_held f c.args.self.now.ticket c.pass_on.new.to c.pass_on.ensures.held (passed_on e f c.in-Some.ticket.number c.args.self.now.ticket own t c.args.self.now.held), tt)
 
-pub invariant-of-self-in-Err· : goal.invariant-of-self-in-Err·
+pub invariant-of-self-in-Err· : goal.invariant_of-self-in-Err·
 invariant-of-self-in-Err· g c =
     (held_refused (state c.args.self.now.explorer) (state c.settle.new.self) _ _ c.args.self.now.ticket c.in-Err.ensures.answer c.in-Err.ensures.after c.args.self.now.held, tt)

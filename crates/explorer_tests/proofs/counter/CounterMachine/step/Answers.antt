@@ -4,8 +4,8 @@ use Rattle.explorer_tests.specs.Counters.{value, climbs}
 use Rattle.explorer_tests.specs.CountersLaw.{counted, stepped}
 use Rattle.explorer_tests.proofs.counter.CounterMachine.step.Goals as goal
 
-pub returns-then-number-count-at : goal.returns-then-number-count-at
-returns-then-number-count-at c =
+pub returns-then-number-count_at : goal.returns-then-number-count_at
+returns-then-number-count_at c =
     let m = c.args.self.now in
     let e = counted m.limit m.goal m.steps m.strict c.args.line.now in
     search rules

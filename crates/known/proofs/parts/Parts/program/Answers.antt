@@ -5,6 +5,6 @@ use Rattle.known.proofs.parts.Parts.program.Goals as goal
 
 pub returns : goal.returns
 returns c =
-    let e = c.put-goal.ensures.all c.if-not-put-goal.false in
-    let h = c.in-ok-program.ensures.made in
+    let e = c.put_goal.ensures.all c.if-not-put_goal.false in
+    let h = c.in_ok-program.ensures.made in
     (h.0 ∙ e, subst (λ (t : Table). flaw t ≡ None) e h.1)

@@ -7,7 +7,7 @@ use Rattle.known.proofs.Filling.{never, more_goal}
 use Rattle.known.proofs.parts.Parts.put_goal.Goals as goal
 
 pub loop-value-preserved : goal.loop-value-preserved
-loop-value-preserved c = more_goal (after_start c.args.self.now) (table c.loop-value.tables) c.args.self.now.goal.now c.loop-value.value-index c.loop-value-test.true c.loop-value.invariant (table c.add-goal.new.self) _ _ refl (sym c.add-goal.ensures.told ∙ c.if-not-add-goal.false) c.add-goal.ensures.after
+loop-value-preserved c = more_goal (after_start c.args.self.now) (table c.loop-value.tables) c.args.self.now.goal.now c.loop-value.value-index c.loop-value-test.true c.loop-value.invariant (table c.add_goal.new.self) _ _ refl (sym c.add_goal.ensures.told ∙ c.if-not-add_goal.false) c.add_goal.ensures.after
 
 pub returns : goal.returns
 returns c = record {

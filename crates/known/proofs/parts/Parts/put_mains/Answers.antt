@@ -7,7 +7,7 @@ use Rattle.known.proofs.Filling.{never, more_mains}
 use Rattle.known.proofs.parts.Parts.put_mains.Goals as goal
 
 pub loop-entry-preserved : goal.loop-entry-preserved
-loop-entry-preserved c = more_mains (after_procedures c.args.self.now) (table c.loop-entry.tables) c.args.self.now.mains.now c.loop-entry.entry-index c.loop-entry-test.true c.loop-entry.invariant (table c.add-main.new.self) (get_or c.args.self.now.mains.now c.loop-entry.entry-index 0) 0 refl (sym c.add-main.ensures.told ∙ c.if-not-add-main.false) c.add-main.ensures.after
+loop-entry-preserved c = more_mains (after_procedures c.args.self.now) (table c.loop-entry.tables) c.args.self.now.mains.now c.loop-entry.entry-index c.loop-entry-test.true c.loop-entry.invariant (table c.add_main.new.self) (get_or c.args.self.now.mains.now c.loop-entry.entry-index 0) 0 refl (sym c.add_main.ensures.told ∙ c.if-not-add_main.false) c.add_main.ensures.after
 
 pub returns : goal.returns
 returns c = record {

@@ -7,7 +7,7 @@ use Rattle.known.proofs.Filling.{room, never, more_nodes}
 use Rattle.known.proofs.parts.Parts.put_nodes.Goals as goal
 
 pub loop-node-preserved : goal.loop-node-preserved
-loop-node-preserved c = more_nodes (after_sizes c.args.self.now) (table c.loop-node.tables) c.args.self.now.nodes.now c.loop-node.node-index c.loop-node-test.true c.loop-node.invariant (table c.add-node.new.self) _ _ refl (room (table c.loop-node.tables).nodes 4096 c.add-node.result c.add-node.ensures.number c.if-is-none.ensures) c.add-node.ensures.after
+loop-node-preserved c = more_nodes (after_sizes c.args.self.now) (table c.loop-node.tables) c.args.self.now.nodes.now c.loop-node.node-index c.loop-node-test.true c.loop-node.invariant (table c.add_node.new.self) _ _ refl (room (table c.loop-node.tables).nodes 4096 c.add_node.result c.add_node.ensures.number c.if-is_none.ensures) c.add_node.ensures.after
 
 pub returns : goal.returns
 returns c = record {

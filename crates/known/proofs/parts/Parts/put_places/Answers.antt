@@ -7,7 +7,7 @@ use Rattle.known.proofs.Filling.{room, never, more_places}
 use Rattle.known.proofs.parts.Parts.put_places.Goals as goal
 
 pub loop-place-preserved : goal.loop-place-preserved
-loop-place-preserved c = more_places (after_nodes c.args.self.now) (table c.loop-place.tables) c.args.self.now.places.now c.loop-place.place-index c.loop-place-test.true c.loop-place.invariant (table c.add-place.new.self) _ _ refl (room (table c.loop-place.tables).places 200 c.add-place.result c.add-place.ensures.number c.if-is-none.ensures) c.add-place.ensures.after
+loop-place-preserved c = more_places (after_nodes c.args.self.now) (table c.loop-place.tables) c.args.self.now.places.now c.loop-place.place-index c.loop-place-test.true c.loop-place.invariant (table c.add_place.new.self) _ _ refl (room (table c.loop-place.tables).places 200 c.add_place.result c.add_place.ensures.number c.if-is_none.ensures) c.add_place.ensures.after
 
 pub returns : goal.returns
 returns c = record {

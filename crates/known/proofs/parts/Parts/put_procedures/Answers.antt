@@ -7,7 +7,7 @@ use Rattle.known.proofs.Filling.{room, never, more_procedures}
 use Rattle.known.proofs.parts.Parts.put_procedures.Goals as goal
 
 pub loop-entry-preserved : goal.loop-entry-preserved
-loop-entry-preserved c = more_procedures (after_places c.args.self.now) (table c.loop-entry.tables) c.args.self.now.procedures.now c.loop-entry.entry-index c.loop-entry-test.true c.loop-entry.invariant (table c.add-procedure.new.self) (get_or c.args.self.now.procedures.now c.loop-entry.entry-index 0) 0 refl (room (table c.loop-entry.tables).procedures 16 c.add-procedure.result c.add-procedure.ensures.number c.if-is-none.ensures) c.add-procedure.ensures.after
+loop-entry-preserved c = more_procedures (after_places c.args.self.now) (table c.loop-entry.tables) c.args.self.now.procedures.now c.loop-entry.entry-index c.loop-entry-test.true c.loop-entry.invariant (table c.add_procedure.new.self) (get_or c.args.self.now.procedures.now c.loop-entry.entry-index 0) 0 refl (room (table c.loop-entry.tables).procedures 16 c.add_procedure.result c.add_procedure.ensures.number c.if-is_none.ensures) c.add_procedure.ensures.after
 
 pub returns : goal.returns
 returns c = record {

@@ -7,7 +7,7 @@ use Rattle.known.proofs.Filling.{never, more_start}
 use Rattle.known.proofs.parts.Parts.put_start.Goals as goal
 
 pub loop-value-preserved : goal.loop-value-preserved
-loop-value-preserved c = more_start (after_mains c.args.self.now) (table c.loop-value.tables) c.args.self.now.start.now c.loop-value.value-index c.loop-value-test.true c.loop-value.invariant (table c.add-start.new.self) (get_or c.args.self.now.start.now c.loop-value.value-index 0) 0 refl (sym c.add-start.ensures.told ∙ c.if-not-add-start.false) c.add-start.ensures.after
+loop-value-preserved c = more_start (after_mains c.args.self.now) (table c.loop-value.tables) c.args.self.now.start.now c.loop-value.value-index c.loop-value-test.true c.loop-value.invariant (table c.add_start.new.self) (get_or c.args.self.now.start.now c.loop-value.value-index 0) 0 refl (sym c.add_start.ensures.told ∙ c.if-not-add_start.false) c.add_start.ensures.after
 
 pub returns : goal.returns
 returns c = record {

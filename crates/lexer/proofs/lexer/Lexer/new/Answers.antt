@@ -5,6 +5,6 @@ use Rattle.lexer.proofs.lexer.Lexer.new.Goals as goal
 pub returns : goal.returns
 returns c = record {
   text = refl;
-  first = c.past-blanks.ensures.place ∙ zero-add _;
+  first = c.past_blanks.ensures.place ∙ zero-add _;
   law = text_law c.args.text.now;
 }

@@ -3,10 +3,10 @@ use Rattle.program.specs.Table.{table}
 use Rattle.program.proofs.Flawless.{sound_from, flawless}
 use Rattle.program.proofs.program.Program.new.Goals as goal
 
-pub invariant-of-result : goal.invariant-of-result
-invariant-of-result c =
+pub invariant_of-result : goal.invariant_of-result
+invariant_of-result c =
     let s = sound_from (table c.args.tables) (sym c.in-None.ensures) in
-    (s.least_values, (s.most_values, (s.least_globals, (s.most_globals, (s.least_buffers, (s.most_buffers, (s.least_levels, (s.most_levels, (s.most_places, (s.most_procedures, (s.most_nodes, (s.all_mains, (s.all_start, (s.all_goal, (s.links, (s.parts, (s.depths, (s.procedures, (s.mains, (s.start, (s.goal, tt)))))))))))))))))))))
+    record { least_values = s.least_values; most_values = s.most_values; least_globals = s.least_globals; most_globals = s.most_globals; least_buffers = s.least_buffers; most_buffers = s.most_buffers; least_levels = s.least_levels; most_levels = s.most_levels; most_places = s.most_places; most_procedures = s.most_procedures; most_nodes = s.most_nodes; all_mains = s.all_mains; all_start = s.all_start; all_goal = s.all_goal; links = s.links; parts = s.parts; depths = s.depths; procedures = s.procedures; mains = s.mains; start = s.start; goal = s.goal }
 
 pub returns-in-Some : goal.returns-in-Some
 returns-in-Some c = record {

@@ -4,16 +4,16 @@ use Rattle.program.specs.Edits.{with_procedures, with_procedure}
 use Rattle.program.proofs.Rooms.{numbered, unnumbered}
 use Rattle.program.proofs.tables.Tables.add_procedure.Goals as goal
 
-pub returns-then-and-one : goal.returns-then-and-one
+pub returns-then-and_one : goal.returns-then-and_one
 unfolding with_procedure
-returns-then-and-one c = record {
-  number = numbered _ _ _ _ c.and-one.ensures.told c.if-and-one.true (omega arith);
-  after = ap (with_procedures (table c.args.self.now)) c.and-one.ensures.items;
+returns-then-and_one c = record {
+  number = numbered _ _ _ _ c.and_one.ensures.told c.if-and_one.true (omega arith);
+  after = ap (with_procedures (table c.args.self.now)) c.and_one.ensures.items;
 }
 
-pub returns-else-and-one : goal.returns-else-and-one
+pub returns-else-and_one : goal.returns-else-and_one
 unfolding with_procedure
-returns-else-and-one c = record {
-  number = unnumbered _ _ _ c.and-one.ensures.told c.if-and-one.false;
-  after = ap (with_procedures (table c.args.self.now)) c.and-one.ensures.items;
+returns-else-and_one c = record {
+  number = unnumbered _ _ _ c.and_one.ensures.told c.if-and_one.false;
+  after = ap (with_procedures (table c.args.self.now)) c.and_one.ensures.items;
 }

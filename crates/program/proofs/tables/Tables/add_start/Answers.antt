@@ -5,4 +5,4 @@ use Rattle.program.proofs.tables.Tables.add_start.Goals as goal
 
 pub returns : goal.returns
 unfolding with_start_value
-returns c = record { told = c.and-one.ensures.told; after = ap (with_start (table c.args.self.now)) c.and-one.ensures.items }
+returns c = record { told = c.and_one.ensures.told; after = ap (with_start (table c.args.self.now)) c.and_one.ensures.items }

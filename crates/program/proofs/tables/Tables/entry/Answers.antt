@@ -3,4 +3,4 @@ use Rattle.program.proofs.tables.Tables.entry.Goals as goal
 
 pub returns : goal.returns
 unfolding entry
-returns c = c.item-or.ensures
+returns c = c.item_or.ensures

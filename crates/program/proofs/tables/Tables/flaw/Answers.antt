@@ -6,17 +6,17 @@ pub returns-in-Some : goal.returns-in-Some
 unfolding flaw
 returns-in-Some c = search rules
 
-pub returns-in-Some-most-flaw : goal.returns-in-Some-most-flaw
+pub returns-in-Some-most_flaw : goal.returns-in-Some-most_flaw
 unfolding flaw
-returns-in-Some-most-flaw c = search rules
+returns-in-Some-most_flaw c = search rules
 
-pub returns-in-Some-each-flaw : goal.returns-in-Some-each-flaw
+pub returns-in-Some-each_flaw : goal.returns-in-Some-each_flaw
 unfolding flaw
-returns-in-Some-each-flaw c = search rules
+returns-in-Some-each_flaw c = search rules
 
-pub returns-in-Some-code-flaw : goal.returns-in-Some-code-flaw
+pub returns-in-Some-code_flaw : goal.returns-in-Some-code_flaw
 unfolding flaw
-returns-in-Some-code-flaw c = search rules
+returns-in-Some-code_flaw c = search rules
 
 pub returns : goal.returns
 unfolding flaw

@@ -3,4 +3,4 @@ use Rattle.program.proofs.tables.Tables.node.Goals as goal
 
 pub returns : goal.returns
 unfolding node_at
-returns c = c.item-or.ensures
+returns c = c.item_or.ensures

@@ -3,4 +3,4 @@ use Rattle.program.proofs.tables.Tables.statement.Goals as goal
 
 pub returns : goal.returns
 unfolding statement_at
-returns c = c.item-or.ensures
+returns c = c.item_or.ensures
