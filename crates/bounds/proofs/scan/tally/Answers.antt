@@ -3,7 +3,7 @@ use Rattle.machine.specs.System.{Step}
 use Rattle.bounds.specs.Scans.{Test}
 use Rattle.bounds.proofs.Scanning.{more_kept, more_dropped, more_none}
 use Rattle.bounds.proofs.scan.tally.Goals as goal
-use Rattle.bounds.proofs.scan.tally.Goals.{then_Keeps, else-keeps}
+use Rattle.bounds.proofs.scan.tally.Goals.{then-keeps, else-keeps}
 
 pub loop-kind-preserved : goal.loop-kind-preserved
 loop-kind-preserved g c =
@@ -12,7 +12,7 @@ loop-kind-preserved g c =
     let t : ℕ × ℕ = (c.in-Some.kind, c.in-Some.delay) in
     let told = c.in-Some.ensures.told in
     elim c.if-keeps.branch [
-      | then_Keeps w ↦ omega (arith, w.found-is, ap length (more_kept p ss c.loop-kind.at t told (sym w.if-keeps.ensures)), c.loop-kind.invariant.0, c.loop-kind.invariant.1)
+      | then-keeps w ↦ omega (arith, w.found-is, ap length (more_kept p ss c.loop-kind.at t told (sym w.if-keeps.ensures)), c.loop-kind.invariant.0, c.loop-kind.invariant.1)
       | else-keeps w ↦ omega (arith, w.found-is, ap length (more_dropped p ss c.loop-kind.at t told (sym w.if-keeps.ensures)), c.loop-kind.invariant.0, c.loop-kind.invariant.1)
     ]
 
