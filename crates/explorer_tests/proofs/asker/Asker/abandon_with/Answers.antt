@@ -9,8 +9,8 @@ invariant_of-other g c =
     let f = state c.args.other.now.explorer in
     let t = taken f c.args.other.now.ticket c.in-Some.ticket c.in-Some.ensures.value c.args.other.now.held in
     let own = abandoned_own (state c.args.self.now.explorer) c.in-Some.ticket.number (g.M.Machine.meaning c.args.machine.now) (g.S.Store.meaning c.args.store.now) c.in-Ok.ensures.answer in
-    (same_held f c.args.self.now.ticket c.pass_on.new.to c.pass_on.ensures.held (passed_on e f c.in-Some.ticket.number c.args.self.now.ticket own t c.args.self.now.held), tt)
+    record { held = same_held f c.args.self.now.ticket c.pass_on.new.to c.pass_on.ensures.held (passed_on e f c.in-Some.ticket.number c.args.self.now.ticket own t c.args.self.now.held) }
 
-pub invariant-of-self-in-Err· : goal.invariant_of-self-in-Err·
-invariant-of-self-in-Err· g c =
-    (held_refused (state c.args.self.now.explorer) (state c.abandon.new.self) _ _ c.args.self.now.ticket c.in-Err.ensures.answer c.in-Err.ensures.after c.args.self.now.held, tt)
+pub invariant_of-self-in-Err-1 : goal.invariant_of-self-in-Err-1
+invariant_of-self-in-Err-1 g c =
+    record { held = held_refused (state c.args.self.now.explorer) (state c.abandon.new.self) _ _ c.args.self.now.ticket c.in-Err.ensures.answer c.in-Err.ensures.after c.args.self.now.held }

@@ -5,4 +5,4 @@ use Rattle.explorer_tests.proofs.asker.Asker.advance_with.Goals as goal
 
 pub invariant_of-self : goal.invariant_of-self
 invariant_of-self g c =
-    (held_advanced (state c.args.self.now.explorer) (state c.advance.new.self) _ _ _ _ c.args.self.now.ticket c.advance.ensures.after c.args.self.now.held, tt)
+    record { held = held_advanced (state c.args.self.now.explorer) (state c.advance.new.self) _ _ _ _ c.args.self.now.ticket c.advance.ensures.after c.args.self.now.held }
