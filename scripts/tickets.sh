@@ -3,23 +3,22 @@
 # after an accepted settle. The same program with the ticket settled is accepted, so that nothing else is the reason.
 set -euo pipefail
 cd "$(dirname "$0")/.."
-kit=$(dirname "$(dirname "$(rt doc)")")
 work=$(mktemp -d)
 trap 'rm -rf "$work"' EXIT
 
-# every library goes in as source, since only the compiler is asked
-libs=()
-while IFS=: read -r name uses; do
-  libs+=(--lib "$name:$(echo $uses | tr ' ' ,)=$kit/$name/src/lib.rt")
-done < "$kit/libs.txt"
+# a repository with the libraries alone, and a program for each ending: only the compiler is asked, nothing is proved
+mkdir "$work/crates"
 for name in machine store explorer; do
-  libs+=(--lib "$name=crates/$name/src/lib.rt")
+  mkdir "$work/crates/$name"
+  cp -r "crates/$name/src" "crates/$name/specs" "crates/$name/proofs" "$work/crates/$name/"
+  grep "^$name:" crates.txt >> "$work/crates.txt"
 done
 
 # program NAME ENDING: a function that begins a search and then does as ENDING says
 program() {
-  mkdir "$work/$1"
-  cat > "$work/$1/main.rt" <<RT
+  mkdir -p "$work/crates/$1/src"
+  echo "$1: machine store explorer" >> "$work/crates.txt"
+  cat > "$work/crates/$1/src/main.rt" <<RT
 use explorer::explorer::Explorer;
 use explorer::returned::Returned;
 use machine::machine::Machine;
@@ -37,7 +36,7 @@ RT
 }
 
 compile() {
-  "$kit/bin/rattle-print-mir" "$work/$1/main.rt" --crate-name "$1" "${libs[@]}" > "$work/$1.out" 2>&1
+  (cd "$work/crates/$1" && rt try > "$work/$1.out" 2>&1)
 }
 
 # refused NAME ERROR: the compiler turns NAME down, and its first error is that one
