@@ -1,4 +1,3 @@
-use Rattle.std.proofs.Common.{rules}
 use Rattle.bounds.proofs.Running.{run_law}
 use Rattle.bounds.proofs.bounded.bounded.Goals as goal
 

@@ -1,4 +1,4 @@
-use Rattle.std.proofs.Common.{◌≡◌, ℕ, ◌-◌, ◌<◌, length, get_or, ap, ◌∙◌, rules}
+use Rattle.std.proofs.Common.{ℕ, ◌-◌, ◌<◌, length, get_or, ap, ◌∙◌, rules}
 use Rattle.bounds.proofs.Paying.{spends_none, spends_more}
 use Rattle.bounds.proofs.front.+put_lefts.Goals as goal
 

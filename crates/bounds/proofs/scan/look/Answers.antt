@@ -1,4 +1,4 @@
-use Rattle.std.proofs.Common.{◌≡◌, ℕ, ◌<◌, length, get_or, rules}
+use Rattle.std.proofs.Common.{ℕ, ◌<◌, length, get_or, rules}
 use Rattle.bounds.proofs.Steps.{few_at, look_ok, look_err, look_area}
 use Rattle.bounds.proofs.scan.look.Goals as goal
 

@@ -1,4 +1,4 @@
-use Rattle.std.proofs.Common.{◌≡◌, ℕ, ◌+◌, List, drop, sym, ap, ◌∙◌, arith}
+use Rattle.std.proofs.Common.{ℕ, ◌+◌, List, drop, sym, ap, ◌∙◌, arith}
 use Rattle.machine.specs.System.{Step}
 use Rattle.bounds.specs.Scans.{Test, sifted}
 use Rattle.bounds.proofs.Scanning.{seek_kept, seek_dropped, seek_found, seek_end, told_from, told_past, told_is, told_less}

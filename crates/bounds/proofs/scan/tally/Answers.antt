@@ -1,4 +1,4 @@
-use Rattle.std.proofs.Common.{ℕ, ◌+◌, List, length, sym, ap, arith}
+use Rattle.std.proofs.Common.{ℕ, List, length, sym, ap, arith}
 use Rattle.machine.specs.System.{Step}
 use Rattle.bounds.specs.Scans.{Test}
 use Rattle.bounds.proofs.Scanning.{more_kept, more_dropped, more_none}

@@ -1,4 +1,4 @@
-use Rattle.std.proofs.Common.{◌≡◌, ℕ, ◌<◌, length, get_or, sym, ap, ◌∙◌, rules}
+use Rattle.std.proofs.Common.{ℕ, ◌<◌, length, get_or, sym, ap, ◌∙◌, rules}
 use Rattle.bounds.specs.Scans.{Test}
 use Rattle.bounds.proofs.Steps.{all_kept, count_ok}
 use Rattle.bounds.proofs.scan.total.Goals as goal

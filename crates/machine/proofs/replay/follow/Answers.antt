@@ -1,4 +1,4 @@
-use Rattle.std.proofs.Common.{◌≡◌, ℕ, List, length, sym, ap, ◌∙◌, rules}
+use Rattle.std.proofs.Common.{◌≡◌, length, sym, ap, ◌∙◌, rules}
 use Rattle.machine.specs.System.{System}
 use Rattle.machine.specs.Replays.{Replayed}
 use Rattle.machine.proofs.Replaying.{replay_end, replay_stuck, replay_more}
