@@ -1,4 +1,4 @@
-use Rattle.std.proofs.Common.{length, drop, ap, ◌∙◌}
+use Rattle.std.proofs.Common.{ap, ◌∙◌}
 use Rattle.std.proofs.lemmas.List.{take_rest}
 use Rattle.configuration.specs.Reading.{buffer_from, untasks}
 use Rattle.configuration.proofs.buffer.Buffer.read.Goals as goal
