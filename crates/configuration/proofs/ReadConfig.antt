@@ -3,7 +3,6 @@ use Rattle.std.proofs.Common.{◌≡◌, ℕ, ◌+◌, ◌-◌, List, ◌++◌, 
 use Rattle.std.proofs.lemmas.List.{take_at, take_rest}
 use Rattle.program.specs.Table.{Table}
 use Rattle.configuration.specs.declared.buffer.Buffer.{Buffer}
-use Rattle.configuration.specs.declared.configuration.Configuration.{Configuration}
 use Rattle.configuration.specs.Reading.{unbuffers, decoded}
 use Rattle.configuration.specs.Meaning.{state_of, config_of}
 

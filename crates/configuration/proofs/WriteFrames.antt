@@ -1,5 +1,5 @@
 -- Frames written one after another: what was written and the bytes of the rest are together the bytes of all.
-use Rattle.std.proofs.Common.{◌≡◌, ℕ, zero, suc, ◌+◌, ◌-◌, ◌*◌, ◌<◌, ◌≤◌, List, [], ◌∷◌, ◌++◌, length, get_or, take, drop, set, sym, ap, ◌∙◌, append_assoc, append-nil, arith, length-set, length-take}
+use Rattle.std.proofs.Common.{◌≡◌, ℕ, suc, ◌+◌, ◌-◌, ◌*◌, ◌<◌, ◌≤◌, List, [], ◌∷◌, ◌++◌, length, get_or, take, drop, set, sym, ap, ◌∙◌, append_assoc, append-nil, arith, length-set, length-take}
 use Rattle.std.proofs.lemmas.List.{take_more_set, take_all, drop_more, drop_all, get_or-take}
 use Rattle.configuration.specs.declared.frame.Frame.{Frame}
 use Rattle.configuration.specs.Config.{no_frame}

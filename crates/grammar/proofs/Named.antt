@@ -3,7 +3,7 @@ use Rattle.std.proofs.Common.{◌≡◌, ℕ, suc, ◌+◌, List, [], ◌∷◌,
 use Rattle.lexer.specs.Lexemes.{Lexeme, word, mark, token, Reader}
 use Rattle.lexer.specs.declared.mark.Mark.TheVariants.{Close}
 use Rattle.grammar.specs.Sources.{Plain, skips, assigns, assumes, calls, returns, posts, yields, zields, Block, stop, plain, branch, loop, Procedure, Main, Source}
-use Rattle.grammar.specs.Spelling.{spelt_expr, spelt_plain, braced, spelt_block, spelt_procedures, spelt_mains, spelt_sizes, spelt_rest, spelt_values, spelt_aims, spelt_bounds, spelt}
+use Rattle.grammar.specs.Spelling.{spelt_expr, spelt_plain, braced, spelt_block, spelt_procedures, spelt_mains, spelt_sizes, spelt_rest, spelt_values, spelt_aims, spelt_bounds}
 use Rattle.grammar.specs.Results.{Reads}
 use Rattle.grammar.specs.Uses.{Use, uses_plain, uses_block, uses_procedures, uses_mains, uses, offset}
 use Rattle.grammar.specs.Laws.{Spells}

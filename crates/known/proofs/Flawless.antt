@@ -1,5 +1,5 @@
 -- The known tables have no flaw, so that only memory can be wanting. Assumes nothing.
-use Rattle.std.proofs.Common.{◌≡◌, ℕ, ◌<◌, Bool, true, false, cond, ◌&&◌, ltb, Some, None, Ok, Err, Option, Result, sym, refl, ◌∙◌, arith, ltb-false, ltb-true, MatchResult}
+use Rattle.std.proofs.Common.{◌≡◌, ℕ, ◌<◌, Bool, true, false, cond, ltb, Some, None, Ok, Err, Option, Result, sym, refl, ◌∙◌, arith, ltb-false, ltb-true, MatchResult}
 use Rattle.program.specs.declared.flaw.Flaw.{Flaw}
 use Rattle.program.specs.declared.flaw.Flaw.TheVariants.{GoalValue}
 use Rattle.program.specs.declared.program.Program.{Program}

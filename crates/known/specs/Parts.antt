@@ -1,8 +1,8 @@
 -- The table that parts write down, how the tables are filled with it, and why no program is made. Assumes nothing.
-use Rattle.std.specs.Prelude.{◌≡◌, ℕ, Bool, false, ◌&&◌, length, Some, None, nat_le}
+use Rattle.std.specs.Prelude.{◌≡◌, Bool, false, ◌&&◌, length, Some, None, nat_le}
 use Rattle.program.specs.declared.program.Program.{Program}
 use Rattle.program.specs.Table.{Table}
-use Rattle.program.specs.Edits.{empty, with_sizes, with_nodes, with_places, with_procedures, with_mains, with_start, with_goal}
+use Rattle.program.specs.Edits.{empty, with_sizes, with_nodes, with_places, with_procedures, with_mains, with_start}
 use Rattle.program.specs.Flaws.{flaw}
 use Rattle.program.specs.Programs.{told}
 use Rattle.known.specs.declared.parts.Parts.{Parts}

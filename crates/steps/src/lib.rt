@@ -2,6 +2,7 @@
 
 // The program machine: the steps that a program's configurations have, and the machine that tells them.
 mod after;
+pub mod as_machine;
 mod change;
 pub mod choice;
 mod choosing;
@@ -11,7 +12,6 @@ mod goal;
 pub mod label;
 mod labels;
 mod listing;
-pub mod machine;
 mod moves;
 pub mod new;
 mod offers;

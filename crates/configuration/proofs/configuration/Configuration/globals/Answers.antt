@@ -1,4 +1,4 @@
-use Rattle.std.proofs.Common.{◌-◌, ◌≤◌, length, arith, rules}
+use Rattle.std.proofs.Common.{◌≤◌, length, arith, rules}
 use Rattle.configuration.proofs.Configs.{globals_below, globals_all}
 use Rattle.configuration.proofs.configuration.Configuration.globals.Goals as goal
 use Rattle.configuration.proofs.configuration.Configuration.globals.Goals.{then-count-lt8, else-count-lt8}

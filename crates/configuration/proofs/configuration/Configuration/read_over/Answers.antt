@@ -1,4 +1,4 @@
-use Rattle.std.proofs.Common.{◌≡◌, length, sym, ◌∙◌, arith}
+use Rattle.std.proofs.Common.{◌≡◌, length, sym, ◌∙◌}
 use Rattle.program.specs.Programs.{told}
 use Rattle.configuration.specs.Layout.{width}
 use Rattle.configuration.specs.Meaning.{config_of}
