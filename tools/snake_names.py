@@ -4,7 +4,8 @@
 usage: python3 tools/snake_names.py        at the top of the repository, once, right after the kit's own script
 
 A name counts if a file of specs/ or proofs/ of a crate here defines it (definitions, lemmas, records, fields, constructors),
-and it is not one that the checker makes. Names of src/, strings, inputs and outputs stay as they are.
+and it is not one that the checker makes; a few others are listed below. Names of src/, strings, inputs and outputs stay as
+they are.
 """
 import os
 import re
@@ -12,11 +13,20 @@ import sys
 
 NAME = r"[A-Za-z_ℕℤ][\w'ℕ≡<≤+*∷-]*"
 DEFINED = re.compile(r"(?m)^( *)(?:(?:abbrev|unfoldable|pub|data|record|ruleset|mutual) )*(" + NAME + r")(?:[^\n:]*?) :(?!:) ?(.*)$")
-LET = re.compile(r"\blet (" + NAME + r") [:=]")
 WORD = re.compile(r"(?<![\w'ℕ≡<≤+*∷◌-])" + NAME + r"(?![\w'ℕ≡<≤+*∷◌-])")
 # What the check knows at a goal, or a loop's variables: names that follow one of these are made by the checker.
 MADE_ROOTS = {"c", "l", "w", "g", "goal", "Goals", "Given"}
 MADE = re.compile(r"^(invariant|decreases)-")
+# Names of imports and of variables, and names after a word that the library no longer has.
+OTHERS = [
+    "count-one", "entries-of", "expand-one", "how-many", "is-wanted", "made-full", "watch-lawful",
+    "keeps-all", "kind-is", "line-serves", "main-on", "node-on", "out-serves", "start-on", "yes-false",
+]
+RENAMED = {
+    "each-from-getD": "each_from_get_or", "each_from_getD": "each_from_get_or",
+    "lines-getD": "lines_get_or", "lines_getD": "lines_get_or",
+    "getD-rows": "get_or_rows", "get_d_rows": "get_or_rows",
+}
 
 
 def files(kinds):
@@ -67,39 +77,32 @@ def respell(path, names):
     text = read(path)
     made = of_a_function(path) and path.endswith(".antt")
     goals = [m.span() for m in re.finditer(r"(?:Goals|Given)\.\{[^}]*\}", text)]
+    strings = [m.span() for m in re.finditer(r'"(?:[^"\\]|\\.)*"', text)] if path.endswith(".rt") else []
 
     def word(m):
-        w = m.group(0)
-        if w not in names:
+        w, at = m.group(0), m.start()
+        if made and root_of(text, at) in MADE_ROOTS:
             return w
-        if made and root_of(text, m.start()) in MADE_ROOTS:
+        if any(a <= at < b for a, b in goals + strings):
             return w
-        if any(a <= m.start() < b for a, b in goals):
-            return w
-        return w.replace("-", "_")
+        return names.get(w, w)
 
-    if path.endswith(".rt"):
-        parts = re.split(r'("(?:[^"\\]|\\.)*")', text)
-        new = ""
-        for i, part in enumerate(parts):
-            new += part if i % 2 else WORD.sub(lambda m: m.group(0).replace("-", "_") if m.group(0) in names else m.group(0), part)
-    else:
-        new = WORD.sub(word, text)
-    if new != text:
-        with open(path, "w", encoding="utf-8") as f:
-            f.write(new)
-        return True
-    return False
+    new = WORD.sub(word, text)
+    if new == text:
+        return False
+    with open(path, "w", encoding="utf-8") as f:
+        f.write(new)
+    return True
 
 
 def main():
-    names = defined()
+    names = {name: name.replace("-", "_") for name in defined() | set(OTHERS)} | RENAMED
     taken = set()
     for path in files((".antt", ".rt")):
         taken |= set(WORD.findall(read(path)))
-    for name in sorted(names):
-        if name.replace("-", "_") in taken:
-            print("falls together:", name, "with", name.replace("-", "_"))
+    for name, new in sorted(names.items()):
+        if name in taken and new in taken:
+            print("falls together:", name, "with", new)
     changed = sum(respell(path, names) for path in list(files((".antt", ".rt"))))
     print(f"{len(names)} names, {changed} files")
     return 0

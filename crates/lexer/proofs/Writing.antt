@@ -34,23 +34,23 @@ row_stands kind most w u n e h =
 word_stands : (w u : List ℕ) → Is_word w → Stops letter_or_digit u → Stands (word w) (w ++ u)
 word_stands [] u i s = absurd i
 word_stands (b ∷ bs) u i s =
-    let kind-is : class b ≡ Letter = of_letter b i.0 in
+    let kind_is : class b ≡ Letter = of_letter b i.0 in
     let n : row_size Word (b ∷ (bs ++ u)) ≡ length (b ∷ bs) = word_size (b ∷ (bs ++ u)) ∙ leading_joined letter_or_digit (b ∷ bs) u (or_left (letter b) (digit b) i.0, i.1) s in
     let few : length bs ≤ 11 = i.2 in
     record {
-      what = ap (λ (k : Class). seen_as k (b ∷ (bs ++ u))) kind-is ∙ row_stands word 12 (b ∷ bs) u (row_size Word (b ∷ (bs ++ u))) n (omega arith);
-      long = ap (λ (k : Class). size_as k (b ∷ (bs ++ u))) kind-is ∙ n;
+      what = ap (λ (k : Class). seen_as k (b ∷ (bs ++ u))) kind_is ∙ row_stands word 12 (b ∷ bs) u (row_size Word (b ∷ (bs ++ u))) n (omega arith);
+      long = ap (λ (k : Class). size_as k (b ∷ (bs ++ u))) kind_is ∙ n;
     }
 
 number_stands : (w u : List ℕ) → Is_number w → Stops digit u → Stands (number w) (w ++ u)
 number_stands [] u i s = absurd i
 number_stands (b ∷ bs) u i s =
-    let kind-is : class b ≡ Digit = of_digit b (digit_no_letter b i.0) i.0 in
+    let kind_is : class b ≡ Digit = of_digit b (digit_no_letter b i.0) i.0 in
     let n : row_size Number (b ∷ (bs ++ u)) ≡ length (b ∷ bs) = number_size (b ∷ (bs ++ u)) ∙ leading_joined digit (b ∷ bs) u (i.0, i.1) s in
     let few : length bs ≤ 2 = i.2 in
     record {
-      what = ap (λ (k : Class). seen_as k (b ∷ (bs ++ u))) kind-is ∙ row_stands number 3 (b ∷ bs) u (row_size Number (b ∷ (bs ++ u))) n (omega arith);
-      long = ap (λ (k : Class). size_as k (b ∷ (bs ++ u))) kind-is ∙ n;
+      what = ap (λ (k : Class). seen_as k (b ∷ (bs ++ u))) kind_is ∙ row_stands number 3 (b ∷ bs) u (row_size Number (b ∷ (bs ++ u))) n (omega arith);
+      long = ap (λ (k : Class). size_as k (b ∷ (bs ++ u))) kind_is ∙ n;
     }
 
 mark_stands : (m : Mark) (u : List ℕ) → Stands (mark m) (spelling m ++ u)

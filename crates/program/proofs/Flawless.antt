@@ -118,9 +118,9 @@ sound_from t e =
     let z = sized t p.0 in
     let s = short t p.1 in
     let c = complete t p.2 in
-    let node-on = none_second (place_flaw t) _ p.3 in
-    let main-on = none_second (procedure_flaw t) _ p.4 in
-    let start-on = none_second (main_flaw t) _ main-on in
+    let node_on = none_second (place_flaw t) _ p.3 in
+    let main_on = none_second (procedure_flaw t) _ p.4 in
+    let start_on = none_second (main_flaw t) _ main_on in
     record {
       least_values = z.values.0;
       most_values = z.values.1;
@@ -137,12 +137,12 @@ sound_from t e =
       all_start = c.start;
       all_goal = c.goal;
       links = λ k d h. rw (get_or_default t.places k d (Return Any) h) (fine_links t (none_first (place_flaw t) _ p.3) k h);
-      parts = λ k d h. rw (get_or_default t.nodes k d (Number 0) h) (fine_parts t (none_first (node_flaw t) _ node-on) k h);
-      depths = λ k h. all_fine (fine_depth t) Depth (length t.nodes) (none_second (node_flaw t) _ node-on) k h;
+      parts = λ k d h. rw (get_or_default t.nodes k d (Number 0) h) (fine_parts t (none_first (node_flaw t) _ node_on) k h);
+      depths = λ k h. all_fine (fine_depth t) Depth (length t.nodes) (none_second (node_flaw t) _ node_on) k h;
       procedures = λ k d h. rw (get_or_default t.procedures k d 0 h) (fine_entries t (none_first (procedure_flaw t) _ p.4) k h);
-      mains = λ k d h. rw (get_or_default t.mains k d 0 h) (ltb-true _ _ (all_fine (fine_main t) Main (length t.mains) (none_first (main_flaw t) _ main-on) k h));
-      start = λ k d h. rw (get_or_default t.start k d 0 h) (ltb-true _ _ (all_fine (fine_start t) StartValue (length t.start) (none_first (start_flaw t) _ start-on) k h));
-      goal = λ k d h. rw (get_or_default t.goal k d None h) (all_fine (fine_goal t) GoalValue (length t.goal) (none_second (start_flaw t) _ start-on) k h);
+      mains = λ k d h. rw (get_or_default t.mains k d 0 h) (ltb-true _ _ (all_fine (fine_main t) Main (length t.mains) (none_first (main_flaw t) _ main_on) k h));
+      start = λ k d h. rw (get_or_default t.start k d 0 h) (ltb-true _ _ (all_fine (fine_start t) StartValue (length t.start) (none_first (start_flaw t) _ start_on) k h));
+      goal = λ k d h. rw (get_or_default t.goal k d None h) (all_fine (fine_goal t) GoalValue (length t.goal) (none_second (start_flaw t) _ start_on) k h);
     }
 
 links_fine : (t : Table) → Sound t → place_flaw t ≡ None
