@@ -1,61 +1,32 @@
-ghost use Rattle.std.specs.Prelude.{◌≡◌, length};
-ghost use Rattle.bounds.specs.Stacks.{affords, covers, spends, budgets};
+ghost use Rattle.std.specs.Prelude.{◌≡◌, ℕ, ◌<◌, Bool, true, List, length};
+ghost use Rattle.bounds.specs.Scans.{Test};
 
-use rule::bound::Bound;
-use rule::rule::Rule;
+// What stands in front of a line: bytes that move with each step of the line behind, or drop the step.
+pub trait Front {
+    // says of kind and delay that the step is kept
+    ghost passes: { Self → Test };
 
-// The bytes of several bounds in front of a line, one byte to a bound and in the same order.
+    // says that every step is
+    ghost opens: { Self → Bool };
 
-// Whether each bound can pay for a step.
-pub fn all_afford(bounds: &[Bound], front: &[u8], kind: u8, delay: u8) -> bool
-    ensures { result ≡ affords bounds.now front.now kind delay }
-{
-    let [bound, bounds @ ..] = bounds else {
-        return true;
-    };
-    let [left, front @ ..] = front else {
-        return true;
-    };
-    bound.next(*left, kind, delay).is_some() && all_afford(bounds, front, kind, delay)
-}
+    // how many bytes there are, and what they are after a step
+    ghost wide: { Self → ℕ };
 
-// Whether each bound can pay for any step.
-pub fn all_cover(bounds: &[Bound], front: &[u8]) -> bool
-    ensures { result ≡ covers bounds.now front.now }
-{
-    let [bound, bounds @ ..] = bounds else {
-        return true;
-    };
-    let [left, front @ ..] = front else {
-        return true;
-    };
-    bound.keeps_all(*left) && all_cover(bounds, front)
-}
+    ghost after: { Self → ℕ → ℕ → List ℕ };
 
-// Writes what is left of each bound after a step.
-pub fn put_lefts(bounds: &[Bound], front: &[u8], kind: u8, delay: u8, out: &mut [u8])
-    requires bytes { length front.now ≡ length bounds.now }
-    requires room { length out.old ≡ length bounds.now }
-    ensures { out.new ≡ spends bounds.now front.now kind delay }
-{
-    let [bound, bounds @ ..] = bounds else {
-        return;
-    };
-    let [left, front @ ..] = front else {
-        return;
-    };
-    put_lefts(bounds, front, kind, delay, &mut out[1..]);
-    out[0] = left.saturating_sub(bound.charge(kind, delay));
-}
+    // apart from `put`, since a scan writes nothing before it has its step
+    fn keeps(&self, kind: u8, delay: u8) -> bool
+        ensures { result ≡ passes self.now kind delay };
 
-// Writes the budget of each bound.
-pub fn put_budgets(bounds: &[Bound], out: &mut [u8])
-    requires { length out.old ≡ length bounds.now }
-    ensures { out.new ≡ budgets bounds.now }
-{
-    let [bound, bounds @ ..] = bounds else {
-        return;
-    };
-    put_budgets(bounds, &mut out[1..]);
-    out[0] = bound.first();
+    fn keeps_all(&self) -> bool
+        ensures { result ≡ opens self.now };
+
+    // writes the bytes after a step that is kept
+    fn put(&self, kind: u8, delay: u8, out: &mut [u8])
+        requires kept { passes self.now kind delay ≡ true }
+        requires room { length out.old ≡ wide self.now }
+        ensures { out.new ≡ after self.now kind delay };
+
+    // where every step is kept, each in range is
+    ghost sound: { (s : Self) → opens s ≡ true → (k d : ℕ) → k < 32 → d < 256 → passes s k d ≡ true };
 }

@@ -1,10 +1,9 @@
 #![tactic(auto)]
 
 // Layers over a machine, machines themselves: one bound, or a stack of them.
+mod apart;
 pub mod bounded;
 mod front;
+mod lefts;
 pub mod over;
-mod scan;
-mod sieve;
 pub mod stack;
-mod under;

@@ -4,5 +4,5 @@ ghost use Rattle.std.specs.Prelude.{◌≡◌, ◌&&◌, ◌==◌, nat_le};
 pub fn serves(width: u16, length: usize) -> bool
     ensures { result ≡ (nat_le width 256 && length == width) }
 {
-    width <= 256 && length == width as usize
+    width <= 256 && length == usize::from(width)
 }

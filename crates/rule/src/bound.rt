@@ -59,12 +59,7 @@ impl Rule for Bound {
     }
 
     fn next(&self, byte: u8, kind: u8, delay: u8) -> Option<u8> {
-        let charge = self.charge(kind, delay);
-        if charge <= byte {
-            Some(byte - charge)
-        } else {
-            None
-        }
+        byte.checked_sub(self.charge(kind, delay))
     }
 
     fn keeps_all(&self, byte: u8) -> bool {

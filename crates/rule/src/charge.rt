@@ -35,7 +35,7 @@ impl Charge {
         ensures { result ≡ charged self kind delay }
     {
         match self {
-            Charge::Kinds(set) => { if set.has(kind) { 1 } else { 0 } }
+            Charge::Kinds(set) => u8::from(set.has(kind)),
             Charge::Delay => delay,
         }
     }
@@ -45,7 +45,7 @@ impl Charge {
     {
         match self {
             Charge::Kinds(_) => 1,
-            Charge::Delay => 255,
+            Charge::Delay => u8::MAX,
         }
     }
 }

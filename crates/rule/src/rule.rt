@@ -12,12 +12,14 @@ pub trait Rule {
     // says of a byte that no step is dropped there
     ghost covers: { Self → ℕ → Bool };
 
-    // bytes stay bytes, and what is covered is kept
+    // bytes stay bytes, and what is covered is kept; held as a value, since the proof that a layer is a lawful
+    // machine names it
     ghost sound: { (r : Self) → Sound (moves r) (opening r) (covers r) };
 
     fn first(&self) -> u8
         ensures { result ≡ opening self.now };
 
+    // from kind and delay, the two that a step tells
     fn next(&self, byte: u8, kind: u8, delay: u8) -> Option<u8>
         ensures { result ≡ moves self.now byte kind delay };
 
