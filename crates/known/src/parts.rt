@@ -8,7 +8,9 @@ use program::statement::Statement;
 use program::tables::Tables;
 use std::alloc::Global;
 
-// A program written down: its sizes and its tables, entry for entry.
+// A program written down: its sizes and its tables, entry for entry. It has the fields of `Tables`, but borrowed, so that
+// a known program is a constant. The sizes stand beside the tables, whose lengths they should be, as tables may be wrong
+// and tests of flaws write such.
 #[derive(Clone, Copy)]
 pub struct Parts<'a> {
     pub values: u8,
@@ -26,31 +28,14 @@ pub struct Parts<'a> {
 }
 
 impl Parts<'_> {
-    // The program that is written down here.
+    // The program that is written down here. Each known program has a function of its own, since its contract names its
+    // own table.
     pub fn program(&self, heap: Global) -> Result<Program, KnownError>
         ensures { MatchResult result (Holds (parts_table self.now)) (Fault (parts_table self.now)) }
     {
         let mut tables = Tables::reserve(heap)?;
         tables.set_sizes(self.values, self.globals, self.buffers, self.levels);
-        if !self.put_nodes(&mut tables) {
-            return Err(KnownError::Room);
-        }
-        if !self.put_places(&mut tables) {
-            return Err(KnownError::Room);
-        }
-        if !self.put_procedures(&mut tables) {
-            return Err(KnownError::Room);
-        }
-        if !self.put_mains(&mut tables) {
-            return Err(KnownError::Room);
-        }
-        if !self.put_start(&mut tables) {
-            return Err(KnownError::Room);
-        }
-        if !self.put_goal(&mut tables) {
-            return Err(KnownError::Room);
-        }
-        let program = Program::new(tables)?;
-        Ok(program)
+        self.fill(&mut tables)?;
+        Ok(Program::new(tables)?)
     }
 }

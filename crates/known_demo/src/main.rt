@@ -1,9 +1,9 @@
 #![tactic(auto)]
 
+ghost use Rattle.std.specs.Prelude.{◌≤◌};
+
 // Asks about the known programs, and prints for each its verdict with the counts, and for two of them the run to the goal.
 use explorer::explorer::Explorer;
-use explorer::report::Report;
-use explorer::verdict::Verdict;
 use known::bumps::bumps;
 use known::error::KnownError;
 use known::puts::puts;
@@ -24,48 +24,40 @@ const STORE_BYTES: usize = 8000;
 
 const TRACE_BYTES: usize = 16;
 
-// The word for a kind's number.
-fn word(kind: u8) -> &'static str {
-    match Kind::of(kind) {
-        Some(kind) => kind.name(),
-        None => "unknown",
-    }
-}
+// The bytes of a line of a program with one buffer and one global.
+const LINE_BYTES: usize = 80;
 
-// The verdict, with its depth where the goal is reached, and the counts.
-fn print_report(rt: &impl Print, name: &str, report: Report) -> io::Result<()> {
-    let word = report.verdict.word();
-    match report.verdict {
-        Verdict::Reached => print!(rt; "{name}: {word} at depth {}", report.depth)?,
-        _ => print!(rt; "{name}: {word}")?,
-    }
-    println!(rt; ", expanded {}, kept {}", report.expanded, report.kept)
+// The word for a kind's number. The demo of the clip watch has the same function, with its own kinds: a program has no
+// library of its own.
+fn word(kind: u8) -> &'static str {
+    Kind::try_from(kind).map_or("unknown", Kind::name)
 }
 
 // Each step's number, kind and delay, from the start line on.
-fn print_run<M: Machine>(
+fn print_run<M: Machine, const WIDTH: usize>(
     rt: &impl Print,
     machine: &M,
     numbers: &[u8],
-    line: &mut [u8],
-    next: &mut [u8],
-) -> io::Result<()> {
-    if machine.start(line).is_err() {
+) -> io::Result<()>
+    requires { WIDTH ≤ 256 }
+{
+    let mut line = [0u8; WIDTH];
+    let mut next = [0u8; WIDTH];
+    if machine.start(&mut line).is_err() {
         return Ok(());
     }
-    for number in numbers {
-        match machine.step(line, *number, next) {
+    for &number in numbers {
+        match machine.step(&line, number, &mut next) {
             Ok((kind, delay)) => println!(rt; "  {number} {:<9}{delay}", word(kind))?,
             Err(refusal) => return println!(rt; "  {number} refused {}", refusal.number()),
         }
-        if line.len() == next.len() {
-            line.copy_from_slice(next);
-        }
+        line = next;
     }
     Ok(())
 }
 
-// Asks about a program, prints the report, and gives the machine with the step numbers of the run, where there is one.
+// Asks about a program and prints the report. It gives the machine with the length of the run, whose step numbers then
+// lie in the area.
 fn question(
     rt: &HostRuntime,
     name: &str,
@@ -79,11 +71,10 @@ fn question(
     let machine = ProgramMachine::new(program);
     let mut bytes = vec![in rt.alloc(); 0u8; STORE_BYTES]?;
     let mut store = RowStore::new(machine.width(), &mut bytes);
-    let mut explorer = Explorer::new(0);
-    match ask(&mut explorer, &machine, &mut store, area) {
+    match ask(&mut Explorer::new(0), &machine, &mut store, area) {
         Ok(report) => {
-            print_report(rt, name, report)?;
-            Ok(Some((machine, report.depth as usize)))
+            println!(rt; "{name}: {report}")?;
+            Ok(Some((machine, usize::from(report.depth))))
         }
         Err(refusal) => {
             println!(rt; "{name}: refused {}", refusal.number())?;
@@ -94,23 +85,20 @@ fn question(
 
 // The report alone.
 fn show(rt: &HostRuntime, name: &str, made: Result<Program, KnownError>) -> io::Result<()> {
-    let mut area = [0u8; TRACE_BYTES];
-    question(rt, name, made, &mut area)?;
+    question(rt, name, made, &mut [0u8; TRACE_BYTES])?;
     Ok(())
 }
 
-// The report and the run of a program whose lines have 80 bytes.
+// The report and the run.
 fn show_run(rt: &HostRuntime, name: &str, made: Result<Program, KnownError>) -> io::Result<()> {
     let mut area = [0u8; TRACE_BYTES];
     let Some((machine, depth)) = question(rt, name, made, &mut area)? else {
         return Ok(());
     };
-    if depth > TRACE_BYTES {
-        return Ok(());
+    match area.get(..depth) {
+        Some(numbers) => print_run::<_, LINE_BYTES>(rt, &machine, numbers),
+        None => Ok(()),
     }
-    let mut line = [0u8; 80];
-    let mut next = [0u8; 80];
-    print_run(rt, &machine, &area[0..depth], &mut line, &mut next)
 }
 
 fn main(rt: HostRuntime) -> io::Result<()> {

@@ -1,6 +1,7 @@
 -- What a node is worth and how deep it is, by its parts one node less deep. Assumes nothing.
-use Rattle.std.proofs.Common.{◌≡◌, ℕ, zero, suc, ◌-◌, ◌<◌, Bool, true, false, not, ◌&&◌, eqb, ltb, List, sym, refl, ap, ◌∙◌, arith}
+use Rattle.std.proofs.Common.{◌≡◌, ℕ, zero, suc, ◌-◌, Bool, true, false, not, ◌&&◌, eqb, ltb, List, sym, refl, ap, ◌∙◌, arith}
 use Rattle.std.proofs.lemmas.Bool.{ne_eqb, lt-ltb, not_from_true}
+use Rattle.std.specs.Int.{from_bool}
 use Rattle.program.specs.declared.operator.Operator.{Operator}
 use Rattle.program.specs.declared.node.Node.{Node}
 use Rattle.program.specs.declared.node.Node.TheVariants.{Not, Join}
@@ -21,11 +22,11 @@ deeper (suc n) t globals l k h = let e : suc n - 1 ≡ n = omega arith in rw e r
 pub worth_by : (n : ℕ) (t : Table) (globals : List ℕ) (l k : ℕ) (m : Node) → (n ≡ 0 → ⊥) → m ≡ node_at t k → node_worth t.values globals l (worth (n - 1) t globals l) m ≡ worth n t globals l k
 worth_by n t globals l k m h e = rw e (deeper n t globals l k h)
 
-zero_flag : (x : ℕ) → flag (eqb x 0) ≡ flag (not (ltb 0 x))
+zero_flag : (x : ℕ) → from_bool (eqb x 0) ≡ flag (not (ltb 0 x))
 zero_flag zero = refl
-zero_flag (suc x) = ap flag (ne_eqb (suc x) 0 (λ e. omega arith) ∙ sym (not_from_true (ltb 0 (suc x)) (lt-ltb 0 (suc x) (omega arith))))
+zero_flag (suc x) = ap from_bool (ne_eqb (suc x) 0 (λ e. omega arith)) ∙ ap flag (sym (not_from_true (ltb 0 (suc x)) (lt-ltb 0 (suc x) (omega arith))))
 
-pub worth_not : (n : ℕ) (t : Table) (globals : List ℕ) (l k a x r : ℕ) → (n ≡ 0 → ⊥) → Not a ≡ node_at t k → x ≡ worth (n - 1) t globals l a → r ≡ flag (eqb x 0) → r ≡ worth n t globals l k
+pub worth_not : (n : ℕ) (t : Table) (globals : List ℕ) (l k a x r : ℕ) → (n ≡ 0 → ⊥) → Not a ≡ node_at t k → x ≡ worth (n - 1) t globals l a → r ≡ from_bool (eqb x 0) → r ≡ worth n t globals l k
 worth_not n t globals l k a x r h e p q = q ∙ zero_flag x ∙ ap (λ v. flag (not (ltb 0 v))) p ∙ worth_by n t globals l k (Not a) h e
 
 pub worth_join : (n : ℕ) (t : Table) (globals : List ℕ) (l k : ℕ) (o : Operator) (a b x y r : ℕ) → (n ≡ 0 → ⊥) → Join o a b ≡ node_at t k → x ≡ worth (n - 1) t globals l a → y ≡ worth (n - 1) t globals l b → r ≡ joined t.values o x y → r ≡ worth n t globals l k

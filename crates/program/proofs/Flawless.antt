@@ -1,5 +1,5 @@
 -- Tables have no flaw exactly where they keep all limits. Assumes nothing.
-use Rattle.std.proofs.Common.{◌≡◌, ℕ, ◌<◌, ◌≤◌, Bool, true, false, ◌&&◌, eqb, ltb, leb, length, get_or, Some, None, Option, sym, refl, ap, ◌∙◌, arith}
+use Rattle.std.proofs.Common.{◌≡◌, ℕ, ◌<◌, ◌≤◌, Bool, true, false, leb, length, get_or, Some, None, Option, sym, refl, arith}
 use Rattle.std.proofs.lemmas.List.{get_or_default}
 use Rattle.std.proofs.lemmas.Bool.{and_parts, and_from, leb-true, ltb-true, eqb-true, le-leb, lt-ltb, eq-eqb}
 use Rattle.program.specs.declared.expression.Expression.TheVariants.{Any}
@@ -8,8 +8,8 @@ use Rattle.program.specs.declared.statement.Statement.TheVariants.{Return}
 use Rattle.program.specs.declared.flaw.Flaw.{Flaw}
 use Rattle.program.specs.declared.flaw.Flaw.TheVariants.{Values, Globals, Buffers, Levels, Places, Procedures, Nodes, Mains, Start, Goal, Place, Node, Depth, Procedure, Main, StartValue, GoalValue}
 use Rattle.program.specs.Table.{Table, statement_at, entry, node_at}
-use Rattle.program.specs.Limits.{Sound, linked, sound_node, sound_goal}
-use Rattle.program.specs.Flaws.{unless, first_of, within, size_flaw, most_flaw, each_flaw, code_flaw, list_flaw, place_flaw, node_flaw, depth_flaw, procedure_flaw, main_flaw, start_flaw, goal_flaw, fine_place, fine_node, fine_depth, fine_procedure, fine_main, fine_start, fine_goal, first_bad, flaw}
+use Rattle.program.specs.Limits.{Sound, linked, sound_node}
+use Rattle.program.specs.Flaws.{unless, first_of, within, size_flaw, most_flaw, each_flaw, code_flaw, list_flaw, place_flaw, node_flaw, procedure_flaw, main_flaw, start_flaw, fine_place, fine_node, fine_depth, fine_procedure, fine_main, fine_start, fine_goal, first_bad, flaw}
 use Rattle.program.proofs.Firsts.{clear, all_fine}
 
 -- None of two, and none by a test.

@@ -1,5 +1,3 @@
 mod Deeper
 mod Firsts
 mod Flawless
-mod Rooms
-mod Words

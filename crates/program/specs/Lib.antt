@@ -9,3 +9,4 @@ pub mod ValueLaws
 pub mod Edits
 pub mod Worths
 pub mod Flaws
+pub mod FlawTexts

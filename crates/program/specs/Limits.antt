@@ -1,5 +1,5 @@
 -- The limits that every program keeps. Assumes nothing.
-use Rattle.std.specs.Prelude.{◌≡◌, ℕ, zero, suc, ◌<◌, ◌≤◌, Bool, true, false, ◌&&◌, List, length, Some, None, Option, nat_lt, slice_index_or}
+use Rattle.std.specs.Prelude.{◌≡◌, ℕ, zero, suc, ◌<◌, ◌≤◌, Bool, true, false, ◌&&◌, length, Some, None, Option, nat_lt, slice_index_or}
 use Rattle.program.specs.declared.variable.Variable.{Variable}
 use Rattle.program.specs.declared.variable.Variable.TheVariants.{Global, Local}
 use Rattle.program.specs.declared.expression.Expression.{Expression}

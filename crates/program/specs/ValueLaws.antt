@@ -1,5 +1,5 @@
 -- Expressions of a program have values of the program. Assumes nothing.
-use Rattle.std.specs.Prelude.{◌≡◌, ℕ, zero, suc, ◌+◌, ◌-◌, ◌<◌, ◌≤◌, Bool, true, false, not, ◌&&◌, ◌||◌, List, length, ◌==◌, nat_lt, slice_index, refl}
+use Rattle.std.specs.Prelude.{◌≡◌, ℕ, zero, suc, ◌+◌, ◌-◌, ◌<◌, ◌≤◌, Bool, true, false, not, ◌&&◌, ◌||◌, List, length, ◌==◌, nat_lt, slice_index}
 use Rattle.std.proofs.Common.{mod-lt, arith}
 use Rattle.std.proofs.lemmas.Bool.{ltb-true}
 use Rattle.program.specs.declared.variable.Variable.{Variable}

@@ -1,5 +1,5 @@
 -- Values, and what expressions are worth. Assumes nothing.
-use Rattle.std.specs.Prelude.{◌≡◌, ℕ, zero, suc, ◌+◌, ◌-◌, ◌%◌, ◌<◌, Bool, true, false, cond, not, ◌&&◌, ◌||◌, List, [], ◌∷◌, ◌==◌, nat_lt, slice_index}
+use Rattle.std.specs.Prelude.{◌≡◌, ℕ, zero, suc, ◌+◌, ◌-◌, ◌%◌, ◌<◌, Bool, true, false, not, ◌&&◌, ◌||◌, List, ◌==◌, nat_lt, slice_index}
 use Rattle.program.specs.declared.variable.Variable.{Variable}
 use Rattle.program.specs.declared.variable.Variable.TheVariants.{Global, Local}
 use Rattle.program.specs.declared.operator.Operator.{Operator}

@@ -1,14 +1,20 @@
-// How tables are filled. None of these calls wants memory; what has no room is left out.
-ghost use Rattle.std.specs.Prelude.{◌≡◌, length, nat_lt};
+// How tables are filled. None of these calls wants memory; what has no room is left out. Each call that adds an entry
+// is `push` with its own table and the room that it has.
+ghost use Rattle.std.specs.Prelude.{◌≡◌, is_ok, length, nat_lt};
+ghost use Rattle.std.specs.Result.{result_ok};
 ghost use Rattle.program.specs.Table.{table};
 ghost use Rattle.program.specs.Edits.{empty, has_room, next_number, with_sizes, with_place, with_statement, with_node, with_procedure, with_main, with_start_value, with_goal_value};
 
-use crate::item::and_one;
+use crate::limits::{MOST_BUFFERS, MOST_GLOBALS, MOST_NODES, MOST_PLACES, MOST_PROCEDURES};
+use crate::no_place::NoPlace;
+use crate::no_room::NoRoom;
 use crate::node::Node;
+use crate::push::push;
 use crate::statement::Statement;
 use crate::tables::Tables;
 
 impl Tables {
+    // The four sizes, in the order in which a written program begins with them.
     pub fn set_sizes(&mut self, values: u8, globals: u8, buffers: u8, levels: u8)
         ensures { table self.new ≡ with_sizes (table self.old) values globals buffers levels }
     {
@@ -19,79 +25,74 @@ impl Tables {
     }
 
     // One more place, and its number.
-    pub fn add_place(&mut self, statement: Statement) -> Option<u8>
-        ensures number { result ≡ next_number (table self.old).places 200 }
+    #[tactic(auto, unfolding(crate::specs::Edits::with_place))]
+    pub fn add_place(&mut self, statement: Statement) -> Result<u8, NoRoom>
+        ensures number { result_ok result ≡ next_number (table self.old).places MOST_PLACES }
         ensures after { table self.new ≡ with_place (table self.old) statement }
     {
-        let number = self.places.len();
-        if and_one(&mut self.places, 200, statement) {
-            Some(number as u8)
-        } else {
-            None
-        }
+        let number = push(&mut self.places, MOST_PLACES, statement)?;
+        Ok(number as u8)
     }
 
     // Another statement at a place that is there already.
-    pub fn set_place(&mut self, place: u8, statement: Statement) -> bool
-        ensures told { result ≡ nat_lt place (length (table self.old).places) }
+    #[tactic(auto, unfolding(crate::specs::Edits::with_statement))]
+    pub fn set_place(&mut self, place: u8, statement: Statement) -> Result<(), NoPlace>
+        ensures told { is_ok result ≡ nat_lt place (length (table self.old).places) }
         ensures after { table self.new ≡ with_statement (table self.old) place statement }
     {
-        let place = place as usize;
-        if place >= self.places.len() {
-            return false;
-        }
-        self.places[place] = statement;
-        true
+        let at = self.places.get_mut(usize::from(place)).ok_or(NoPlace)?;
+        *at = statement;
+        Ok(())
     }
 
     // One more node, and its number.
-    pub fn add_node(&mut self, node: Node) -> Option<u16>
-        ensures number { result ≡ next_number (table self.old).nodes 4096 }
+    #[tactic(auto, unfolding(crate::specs::Edits::with_node))]
+    pub fn add_node(&mut self, node: Node) -> Result<u16, NoRoom>
+        ensures number { result_ok result ≡ next_number (table self.old).nodes MOST_NODES }
         ensures after { table self.new ≡ with_node (table self.old) node }
     {
-        let number = self.nodes.len();
-        if and_one(&mut self.nodes, 4096, node) {
-            Some(number as u16)
-        } else {
-            None
-        }
+        let number = push(&mut self.nodes, MOST_NODES, node)?;
+        Ok(number as u16)
     }
 
     // One more procedure by its first place, and its number.
-    pub fn add_procedure(&mut self, entry: u8) -> Option<u8>
-        ensures number { result ≡ next_number (table self.old).procedures 16 }
+    #[tactic(auto, unfolding(crate::specs::Edits::with_procedure))]
+    pub fn add_procedure(&mut self, entry: u8) -> Result<u8, NoRoom>
+        ensures number { result_ok result ≡ next_number (table self.old).procedures MOST_PROCEDURES }
         ensures after { table self.new ≡ with_procedure (table self.old) entry }
     {
-        let number = self.procedures.len();
-        if and_one(&mut self.procedures, 16, entry) {
-            Some(number as u8)
-        } else {
-            None
-        }
+        let number = push(&mut self.procedures, MOST_PROCEDURES, entry)?;
+        Ok(number as u8)
     }
 
-    // The main of the next buffer, by its first place; whether there was room.
-    pub fn add_main(&mut self, entry: u8) -> bool
-        ensures told { result ≡ has_room (table self.old).mains 3 }
+    // The main of the next buffer, by its first place.
+    #[tactic(auto, unfolding(crate::specs::Edits::with_main))]
+    pub fn add_main(&mut self, entry: u8) -> Result<(), NoRoom>
+        ensures told { is_ok result ≡ has_room (table self.old).mains MOST_BUFFERS }
         ensures after { table self.new ≡ with_main (table self.old) entry }
     {
-        and_one(&mut self.mains, 3, entry)
+        push(&mut self.mains, usize::from(MOST_BUFFERS), entry)?;
+        Ok(())
     }
 
-    // The start value of the next global; whether there was room.
-    pub fn add_start(&mut self, value: u8) -> bool
-        ensures told { result ≡ has_room (table self.old).start 8 }
+    // The start value of the next global.
+    #[tactic(auto, unfolding(crate::specs::Edits::with_start_value))]
+    pub fn add_start(&mut self, value: u8) -> Result<(), NoRoom>
+        ensures told { is_ok result ≡ has_room (table self.old).start MOST_GLOBALS }
         ensures after { table self.new ≡ with_start_value (table self.old) value }
     {
-        and_one(&mut self.start, 8, value)
+        push(&mut self.start, usize::from(MOST_GLOBALS), value)?;
+        Ok(())
     }
 
-    // What the goal asks of the next global; whether there was room.
-    pub fn add_goal(&mut self, value: Option<u8>) -> bool
-        ensures told { result ≡ has_room (table self.old).goal 8 }
+    // What the goal asks of the next global.
+    #[tactic(auto, unfolding(crate::specs::Edits::with_goal_value))]
+    pub fn add_goal(&mut self, value: Option<u8>) -> Result<(), NoRoom>
+        ensures told { is_ok result ≡ has_room (table self.old).goal MOST_GLOBALS }
         ensures after { table self.new ≡ with_goal_value (table self.old) value }
     {
-        and_one(&mut self.goal, 8, value)
+        push(&mut self.goal, usize::from(MOST_GLOBALS), value)?;
+        Ok(())
     }
 
     // Empties the tables, and keeps their room.

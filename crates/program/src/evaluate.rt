@@ -1,11 +1,12 @@
-// What expressions are worth, by the values of the globals and of the frame's own variable.
+// What expressions are worth, by the values of the globals and of the frame's own variable l: the two things that a
+// variable can name, each taken from where it lies.
 ghost use Rattle.std.specs.Prelude.{◌≡◌};
 ghost use Rattle.program.specs.Values.{held, worth, value, may_be_true, may_be_false};
 ghost use Rattle.program.specs.Worths.{Valued};
 ghost use Rattle.program.specs.Programs.{told};
 
 use crate::expression::Expression;
-use crate::join::{flag, join};
+use crate::join::join;
 use crate::node::Node;
 use crate::program::Program;
 use crate::shallow::DEEPEST;
@@ -16,10 +17,7 @@ pub fn held(variable: Variable, globals: &[u8], l: u8) -> u8
     ensures { result ≡ held globals.now l variable }
 {
     match variable {
-        Variable::Global(g) => {
-            let g = g as usize;
-            if g < globals.len() { globals[g] } else { 0 }
-        }
+        Variable::Global(g) => globals.get(usize::from(g)).copied().unwrap_or(0),
         Variable::Local => l,
     }
 }
@@ -44,7 +42,7 @@ impl Program {
         match self.tables.node(node) {
             Node::Number(v) => v,
             Node::Read(variable) => held(variable, globals, l),
-            Node::Not(part) => flag(self.worth(below, part, globals, l) == 0),
+            Node::Not(part) => u8::from(self.worth(below, part, globals, l) == 0),
             Node::Join(operator, left, right) => {
                 let a = self.worth(below, left, globals, l);
                 let b = self.worth(below, right, globals, l);
@@ -53,7 +51,8 @@ impl Program {
         }
     }
 
-    // Whether an expression may be true: `*` may, and so may what is not 0.
+    // Whether an expression may be true: `*` may, and so may what is not 0. This and `may_be_false` are two calls, as a
+    // test is asked for one way or for both.
     pub fn may_be_true(&self, test: Expression, globals: &[u8], l: u8) -> bool
         ensures { result ≡ may_be_true (told self.now) globals.now l test }
     {

@@ -1,7 +1,10 @@
-ghost use Rattle.std.specs.Prelude.{◌≡◌};
-ghost use Rattle.std.specs.Str.{bytes_eq};
-ghost use Rattle.program.specs.Kinds.{number, named, kind_of, kind_named};
+ghost use Rattle.std.specs.Prelude.{◌≡◌, Some, ◌++◌, codes};
+ghost use Rattle.std.specs.Fmt.{decimal, styled_text};
+ghost use Rattle.program.specs.Kinds.{number, named, kind_of, kind_named, Decodes};
 ghost use Rattle.program.specs.KindLaws.{Numbered, Named};
+
+use std::error::Error;
+use std::fmt;
 
 // The kinds of steps, in the order of their numbers.
 #[derive(Clone, Copy, PartialEq, Eq, Debug)]
@@ -20,6 +23,20 @@ pub enum Kind {
     Dispatch,
     Yield,
     Zield,
+}
+
+// A number that is no kind's.
+#[derive(Clone, Copy, PartialEq, Eq, Debug)]
+pub struct UnknownKind(pub u8);
+
+impl Error for UnknownKind {}
+
+impl fmt::Display for UnknownKind {
+    ghost output = { λ e. Some (codes "no kind has the number " ++ decimal e.0) };
+
+    fn fmt<W: fmt::Write>(&self, f: &mut fmt::Formatter<W>) -> fmt::Result {
+        write!(f, "no kind has the number {}", self.0)
+    }
 }
 
 const KINDS: [Kind; 14] = [
@@ -74,23 +91,7 @@ impl Kind {
         ensures told { result ≡ kind_of n }
         ensures law { Numbered n }
     {
-        match n {
-            0 => Some(Kind::Skip),
-            1 => Some(Kind::Assume),
-            2 => Some(Kind::Then),
-            3 => Some(Kind::Else),
-            4 => Some(Kind::Assign),
-            5 => Some(Kind::Do),
-            6 => Some(Kind::End),
-            7 => Some(Kind::Call),
-            8 => Some(Kind::Return),
-            9 => Some(Kind::Resume),
-            10 => Some(Kind::Post),
-            11 => Some(Kind::Dispatch),
-            12 => Some(Kind::Yield),
-            13 => Some(Kind::Zield),
-            _ => None,
-        }
+        Kind::try_from(n).ok()
     }
 
     // The kind of a word, if it is one's.
@@ -98,18 +99,29 @@ impl Kind {
         ensures told { result ≡ kind_named word.now }
         ensures law { Named word.now }
     {
-        for kind in KINDS {
-            if same(word, kind.name().as_bytes()) {
-                return Some(kind);
-            }
-        }
-        None
+        KINDS
+            .iter()
+            .copied()
+            .find(|kind| word == kind.name().as_bytes())
     }
 }
 
-// Whether two words are the same.
-fn same(a: &[u8], b: &[u8]) -> bool
-    ensures { result ≡ bytes_eq a.now b.now }
-{
-    a == b
+impl TryFrom<u8> for Kind {
+    type Error = UnknownKind;
+
+    ghost try_from_gives = { Decodes };
+
+    fn try_from(n: u8) -> Result<Kind, UnknownKind> {
+        KINDS.get(usize::from(n)).copied().ok_or(UnknownKind(n))
+    }
+}
+
+impl fmt::Display for Kind {
+    ghost output = { λ k. Some (named k) };
+
+    ghost styled_output = { λ k s. Some (styled_text s (named k)) };
+
+    fn fmt<W: fmt::Write>(&self, f: &mut fmt::Formatter<W>) -> fmt::Result {
+        f.pad(self.name())
+    }
 }

@@ -10,22 +10,17 @@ use crate::tables::Tables;
 use crate::variable::Variable;
 
 impl Tables {
+    // This and `has_node` are one comparison each, of a table with numbers of its own type.
     pub(crate) fn has_place(&self, place: u8) -> bool
         ensures { result ≡ nat_lt place (length (table self.now).places) }
     {
-        (place as usize) < self.places.len()
-    }
-
-    fn has_procedure(&self, procedure: u8) -> bool
-        ensures { result ≡ nat_lt procedure (length (table self.now).procedures) }
-    {
-        (procedure as usize) < self.procedures.len()
+        usize::from(place) < self.places.len()
     }
 
     fn has_node(&self, node: u16) -> bool
         ensures { result ≡ nat_lt node (length (table self.now).nodes) }
     {
-        (node as usize) < self.nodes.len()
+        usize::from(node) < self.nodes.len()
     }
 
     pub(crate) fn is_value(&self, v: u8) -> bool
@@ -57,7 +52,9 @@ impl Tables {
         ensures { result ≡ linked (table self.now) statement }
     {
         match statement {
-            Statement::Skip { next } => self.has_place(next),
+            Statement::Skip { next } | Statement::Yield { next } | Statement::Zield { next } => {
+                self.has_place(next)
+            }
             Statement::Assume { test, next } => self.has_expression(test) && self.has_place(next),
             Statement::If {
                 test,
@@ -85,8 +82,6 @@ impl Tables {
                 argument,
                 next,
             } => level < self.levels && self.has_call(procedure, argument, next),
-            Statement::Yield { next } => self.has_place(next),
-            Statement::Zield { next } => self.has_place(next),
         }
     }
 
@@ -94,7 +89,9 @@ impl Tables {
     fn has_call(&self, procedure: u8, argument: Expression, next: u8) -> bool
         ensures { result ≡ (nat_lt procedure (length (table self.now).procedures) && (has_expression (table self.now) argument && nat_lt next (length (table self.now).places))) }
     {
-        self.has_procedure(procedure) && self.has_expression(argument) && self.has_place(next)
+        usize::from(procedure) < self.procedures.len()
+            && self.has_expression(argument)
+            && self.has_place(next)
     }
 
     // Whether a number is a value, and the variable or the parts of a node are there.
@@ -113,9 +110,6 @@ impl Tables {
     pub(crate) fn sound_goal(&self, goal: Option<u8>) -> bool
         ensures { result ≡ sound_goal (table self.now) goal }
     {
-        match goal {
-            None => true,
-            Some(v) => self.is_value(v),
-        }
+        goal.is_none_or(|v| self.is_value(v))
     }
 }

@@ -1,8 +1,9 @@
 use crate::expression::Expression;
 use crate::variable::Variable;
 
-// What stands at a place. `next` is the place that follows; procedures go by their numbers.
-#[derive(Clone, Copy)]
+// What stands at a place. `next` is the place that follows; places and procedures go by their numbers, which the bytes of
+// a frame hold too.
+#[derive(Clone, Copy, PartialEq, Eq, Debug)]
 pub enum Statement {
     Skip {
         next: u8,

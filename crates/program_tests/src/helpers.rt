@@ -57,10 +57,7 @@ pub(crate) fn sampled(heap: Global) -> Result<ProgramMachine, KnownError> {
 
 // The number of the refusal, or 0 where the call was accepted.
 pub(crate) fn refused<T: Drop>(answer: Result<T, Refusal>) -> u8 {
-    match answer {
-        Ok(_) => 0,
-        Err(refusal) => refusal.number(),
-    }
+    answer.err().map_or(0, Refusal::number)
 }
 
 // The two have the same bytes.
@@ -76,20 +73,19 @@ pub(crate) fn lists<const W: usize, const N: usize>(
     tight: bool,
     steps: [Listed<W>; N],
 ) -> Result<(), Fail> {
-    assert_eq!(rt; machine.count(&line)? as usize, N);
+    let count = machine.count(&line)?;
+    assert_eq!(rt; usize::from(count), N);
     assert_eq!(rt; machine.tight(&line)?, tight);
-    let mut past = 0u8;
-    for (kind, delay, next) in steps {
+    for (number, (kind, delay, next)) in (0..count).zip(steps.iter()) {
         let mut out = [0u8; W];
         assert_eq!(rt;
-            machine.step(&line, past, &mut out)?,
-            (kind.number(), delay)
+            machine.step(&line, number, &mut out)?,
+            (kind.number(), *delay)
         );
-        same(rt, &out, &next);
-        past = past.wrapping_add(1);
+        same(rt, &out, next);
     }
     let mut out = [77u8; W];
-    assert_eq!(rt; refused(machine.step(&line, past, &mut out)), 11);
+    assert_eq!(rt; refused(machine.step(&line, count, &mut out)), 11);
     same(rt, &out, &[77u8; W]);
     Ok(())
 }

@@ -22,7 +22,7 @@ use steps::program_machine::ProgramMachine;
 use store::row_store::RowStore;
 use store::store::Store;
 
-// Verdict, depth, entries expanded and entries kept.
+// Verdict, depth, entries expanded and entries kept, as a tuple, so that a test is one line.
 type Told = (Verdict, u16, u16, u16);
 
 // Asks in a store of that many bytes. The trace goes into the area.

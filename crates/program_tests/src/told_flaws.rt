@@ -25,7 +25,7 @@ pub(crate) const SOUND: Parts<'static> = Parts {
     goal: &[None],
 };
 
-// A flaw's name, and the number that it names or 0.
+// A flaw's name, and the number that it names or 0: by word and number, as the lists of tests write them.
 fn named(flaw: Flaw) -> (&'static str, u16) {
     match flaw {
         Flaw::Values => ("values", 0),

@@ -15,47 +15,36 @@ fn with_byte(sum: u32, byte: u8) -> u32 {
 
 // Takes step 0 again and again, and begins anew at the start line where there is none. It gives the checksum of the
 // kinds that were told and of the last line.
-fn walk<M: Machine>(machine: &M, calls: u32, line: &mut [u8], next: &mut [u8]) -> u32 {
+fn walk<M: Machine, const W: usize>(machine: &M, calls: u32, mut line: [u8; W]) -> u32 {
     let mut sum = 0;
-    let _ = machine.start(line);
+    let mut next = [0u8; W];
+    let _ = machine.start(&mut line);
     for _ in 0..calls {
-        match machine.step(line, 0, next) {
+        match machine.step(&line, 0, &mut next) {
             Ok((kind, _)) => {
                 sum = with_byte(sum, kind);
-                if line.len() == next.len() {
-                    line.copy_from_slice(next);
-                }
+                line = next;
             }
             Err(_) => {
-                let _ = machine.start(line);
+                let _ = machine.start(&mut line);
             }
         }
     }
-    for byte in line {
-        sum = with_byte(sum, *byte);
-    }
-    sum
+    line.iter().fold(sum, |sum, byte| with_byte(sum, *byte))
 }
 
 // The number that is the program's only argument.
 fn asked(rt: &HostRuntime) -> anyhow::Result<u32> {
     let mut words = env::args(rt)?;
-    let _ = words.next();
-    match words.next() {
-        Some(word) => Ok(word.as_str().parse::<u32>()?),
-        None => Err(anyhow!("how many step calls?")),
-    }
+    let word = words.nth(1).ok_or_else(|| anyhow!("how many step calls?"))?;
+    Ok(word.as_str().parse::<u32>()?)
 }
 
 fn run(rt: &HostRuntime) -> anyhow::Result<()> {
     let calls = asked(rt)?;
-    let Ok(program) = bumps(rt.alloc(), 3) else {
-        return Err(anyhow!("the program is not made"));
-    };
+    let program = bumps(rt.alloc(), 3)?;
     let machine = ProgramMachine::new(program);
-    let mut line = [0u8; 80];
-    let mut next = [0u8; 80];
-    let sum = walk(&machine, calls, &mut line, &mut next);
+    let sum = walk(&machine, calls, [0u8; 80]);
     println!(rt; "{calls} step calls, checksum {sum}")?;
     Ok(())
 }

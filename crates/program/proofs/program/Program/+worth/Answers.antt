@@ -13,7 +13,7 @@ pub returns-in-Read : goal.returns-in-Read
 returns-in-Read t c = c.held.ensures ∙ worth_by _ _ _ _ _ (Read c.in-Read.variable) c.if-depth-eq0.false c.in-Read.ensures
 
 pub returns-in-Not : goal.returns-in-Not
-returns-in-Not t c = worth_not _ _ _ _ _ _ _ _ c.if-depth-eq0.false c.in-Not.ensures c.worth.ensures c.flag.ensures
+returns-in-Not t c = worth_not _ _ _ _ _ _ _ _ c.if-depth-eq0.false c.in-Not.ensures c.worth.ensures c.from.ensures
 
 pub returns-in-Join : goal.returns-in-Join
 returns-in-Join t c = worth_join _ _ _ _ _ _ _ _ _ _ _ c.if-depth-eq0.false c.in-Join.ensures c.worth-a.ensures c.worth-b.ensures c.join.ensures

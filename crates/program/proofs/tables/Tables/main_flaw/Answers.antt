@@ -1,12 +1,14 @@
-use Rattle.std.proofs.Common.{ltb, length, ap, ◌∙◌, arith}
+use Rattle.std.proofs.Common.{◌≡◌, Bool, true, false, rules, tests, ℕ, ltb, length}
+use Rattle.std.proofs.lemmas.Iterator.{IsFirst-from_position, YieldsList-from_slice}
 use Rattle.program.specs.declared.flaw.Flaw.TheVariants.{Main}
 use Rattle.program.specs.Table.{table}
-use Rattle.program.specs.Flaws.{fine_main}
-use Rattle.program.proofs.Firsts.{found, clear}
+use Rattle.program.proofs.Firsts.{first_item}
 use Rattle.program.proofs.tables.Tables.main_flaw.Goals as goal
 
-pub returns-then-not-has_place : goal.returns-then-not-has_place
-returns-then-not-has_place c = found (fine_main (table c.args.self.now)) Main c.loop-buffer.buffer _ _ (omega arith) c.loop-buffer.invariant (c.has_place.ensures ∙ ap (λ v. ltb v (length (table c.args.self.now).places)) c.main.ensures) c.if-not-has_place.true
-
 pub returns : goal.returns
-returns c = clear (fine_main (table c.args.self.now)) Main _ c.loop-buffer.buffer (omega arith) c.loop-buffer.invariant
+returns c =
+    let t = table c.args.self.now in
+    let fine : ℕ → Bool = λ x. ltb x (length t.places) in
+    first_item fine 0 Main _ t.mains c.position.result _
+    (IsFirst-from_position _ _ c.position.result (λ x. fine x ≡ false) (λ x. fine x ≡ true) c.position.ensures.ran (YieldsList-from_slice t.mains cc) (λ x q k. search (rules, tests)) (λ x q k. search (rules, tests)))
+    (λ i y k. search (rules, tests)) c.map.ensures.cases

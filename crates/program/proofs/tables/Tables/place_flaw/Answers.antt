@@ -1,16 +1,17 @@
-use Rattle.std.proofs.Common.{sym, ap, ◌∙◌, arith, below_more}
+use Rattle.std.proofs.Common.{◌≡◌, true, false, rules, tests}
+use Rattle.std.proofs.lemmas.Iterator.{IsFirst-from_position, YieldsList-from_slice}
 use Rattle.program.specs.declared.flaw.Flaw.TheVariants.{Place}
-use Rattle.program.specs.Table.{table}
+use Rattle.program.specs.declared.expression.Expression.TheVariants.{Any}
+use Rattle.program.specs.declared.statement.Statement.TheVariants.{Return}
+use Rattle.program.specs.Table.{table, statement_at}
 use Rattle.program.specs.Limits.{linked}
-use Rattle.program.specs.Flaws.{fine_place}
-use Rattle.program.proofs.Firsts.{found, clear}
+use Rattle.program.proofs.Firsts.{first_item}
 use Rattle.program.proofs.tables.Tables.place_flaw.Goals as goal
 
-pub returns-then-not-linked : goal.returns-then-not-linked
-returns-then-not-linked c = found (fine_place (table c.args.self.now)) Place c.loop-place.place _ _ (omega arith) c.loop-place.invariant (c.linked.ensures ∙ ap (linked (table c.args.self.now)) c.statement.ensures) c.if-not-linked.true
-
-pub loop-place-preserved : goal.loop-place-preserved
-loop-place-preserved c = below_more _ _ c.loop-place.invariant (sym (c.linked.ensures ∙ ap (linked (table c.args.self.now)) c.statement.ensures) ∙ c.if-not-linked.false)
-
 pub returns : goal.returns
-returns c = clear (fine_place (table c.args.self.now)) Place _ c.loop-place.place (omega arith) c.loop-place.invariant
+unfolding statement_at
+returns c =
+    let t = table c.args.self.now in
+    first_item (linked t) (Return Any) Place _ t.places c.position.result _
+    (IsFirst-from_position _ _ c.position.result (λ x. (linked t) x ≡ false) (λ x. (linked t) x ≡ true) c.position.ensures.ran (YieldsList-from_slice t.places cc) (λ x q k. search (rules, tests)) (λ x q k. search (rules, tests)))
+    (λ i y k. search (rules, tests)) c.map.ensures.cases

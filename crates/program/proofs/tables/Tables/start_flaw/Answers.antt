@@ -1,12 +1,14 @@
-use Rattle.std.proofs.Common.{ltb, ap, ◌∙◌, arith}
+use Rattle.std.proofs.Common.{◌≡◌, Bool, true, false, rules, tests, ℕ, ltb}
+use Rattle.std.proofs.lemmas.Iterator.{IsFirst-from_position, YieldsList-from_slice}
 use Rattle.program.specs.declared.flaw.Flaw.TheVariants.{StartValue}
 use Rattle.program.specs.Table.{table}
-use Rattle.program.specs.Flaws.{fine_start}
-use Rattle.program.proofs.Firsts.{found, clear}
+use Rattle.program.proofs.Firsts.{first_item}
 use Rattle.program.proofs.tables.Tables.start_flaw.Goals as goal
 
-pub returns-then-not-is_value : goal.returns-then-not-is_value
-returns-then-not-is_value c = found (fine_start (table c.args.self.now)) StartValue c.loop-global.global _ _ (omega arith) c.loop-global.invariant (c.is_value.ensures ∙ ap (λ v. ltb v (table c.args.self.now).values) c.start.ensures) c.if-not-is_value.true
-
 pub returns : goal.returns
-returns c = clear (fine_start (table c.args.self.now)) StartValue _ c.loop-global.global (omega arith) c.loop-global.invariant
+returns c =
+    let t = table c.args.self.now in
+    let fine : ℕ → Bool = λ x. ltb x t.values in
+    first_item fine 0 StartValue _ t.start c.position.result _
+    (IsFirst-from_position _ _ c.position.result (λ x. fine x ≡ false) (λ x. fine x ≡ true) c.position.ensures.ran (YieldsList-from_slice t.start cc) (λ x q k. search (rules, tests)) (λ x q k. search (rules, tests)))
+    (λ i y k. search (rules, tests)) c.map.ensures.cases

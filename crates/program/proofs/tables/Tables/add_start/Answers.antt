@@ -1,8 +1,0 @@
-use Rattle.std.proofs.Common.{ap}
-use Rattle.program.specs.Table.{table}
-use Rattle.program.specs.Edits.{with_start, with_start_value}
-use Rattle.program.proofs.tables.Tables.add_start.Goals as goal
-
-pub returns : goal.returns
-unfolding with_start_value
-returns c = record { told = c.and_one.ensures.told; after = ap (with_start (table c.args.self.now)) c.and_one.ensures.items }
