@@ -1,14 +1,13 @@
 -- Tests of each element of a list, and tests one after another.
-use Rattle.std.proofs.Common.{◌≡◌, ℕ, zero, suc, ◌+◌, ◌<◌, ◌≤◌, Bool, true, false, ◌&&◌, ltb, List, [], ◌∷◌, map, length, get_or, take, drop, sym, refl, ap, ◌∙◌, arith}
+use Rattle.std.proofs.Common.{◌≡◌, ℕ, ◌+◌, ◌<◌, ◌≤◌, Bool, true, false, ◌&&◌, not, eqb, ltb, List, [], ◌∷◌, map, length, get_or, take, drop, sym, ap, ◌∙◌, arith}
 use Rattle.std.specs.List.{list_all}
 use Rattle.std.proofs.lemmas.List.{drop_more, drop_all}
+use Rattle.std.proofs.lemmas.Bool.{ne_eqb}
 use Rattle.program.specs.Table.{Table}
-use Rattle.configuration.specs.declared.frame.Frame.{Frame}
-use Rattle.configuration.specs.declared.buffer.Buffer.{Buffer}
 use Rattle.configuration.specs.declared.configuration.Configuration.{Configuration}
-use Rattle.configuration.specs.Config.{Pending}
+use Rattle.configuration.specs.declared.frame.Frame.{Frame}
 use Rattle.configuration.specs.Tests.{some_frames, lawful_buffer}
-use Rattle.configuration.specs.Meaning.{topmost, frames_of, tasks_of, state_of, config_of}
+use Rattle.configuration.specs.Meaning.{state_of, config_of}
 
 -- What is left of a list that is told by f: the element, and the rest.
 pub told_more : {X Y : Type 0} (f : X → Y) (xs : List X) (n : ℕ) (x : X) → n < length xs → x ≡ get_or xs n x → map f (drop n xs) ≡ f x ∷ map f (drop (n + 1) xs)
@@ -46,20 +45,12 @@ first_passed x b y e f = f ∙ ap (λ z. z && y) e
 pub first_failed : (x y : Bool) → false ≡ x → false ≡ (x && y)
 first_failed x y e = ap (λ z. z && y) e
 
--- A task has frames where its depth is not 0.
-pub no_topmost : (fs : List Frame) (n : ℕ) → n ≡ 0 → false ≡ some_frames (topmost fs n)
-unfolding topmost
-no_topmost fs zero e = refl
-no_topmost fs (suc n) e = absurd (omega arith)
-
-pub some_topmost : (fs : List Frame) (n : ℕ) → (n ≡ 0 → ⊥) → true ≡ some_frames (topmost fs n)
-unfolding topmost
-some_topmost fs zero e = absurd (e refl)
-some_topmost fs (suc n) e = refl
-
--- The tasks that are pending.
-pub tasks_test : (p : List Pending → Bool) (x : Buffer) (n : ℕ) (a : Bool) → n ≡ x.pending → a ≡ p (map frames_of (take n x.tasks)) → a ≡ p (tasks_of x)
-tasks_test p x n a en e = e ∙ ap (λ k. p (map frames_of (take k x.tasks))) en
+-- A list has frames where its length is not 0.
+pub some_long : (us : List Frame) (n : ℕ) → length us ≡ n → some_frames us ≡ not (eqb n 0)
+some_long [] n e = ap (λ m. not (eqb m 0)) e
+some_long (u ∷ us) n e =
+    let some : n ≡ 0 → ⊥ = λ z. omega (arith, e, z) in
+    sym (ap not (ne_eqb n 0 some))
 
 -- The globals and the buffers that a program has.
 pub globals_test : (t : Table) (x : Configuration) (v n : ℕ) (a : Bool) → v ≡ t.values → n ≡ t.globals → a ≡ list_all (λ u. ltb u v) (take n x.globals) → a ≡ list_all (λ u. ltb u t.values) (config_of t x).globals

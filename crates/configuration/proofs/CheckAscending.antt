@@ -1,11 +1,10 @@
 -- Tasks tested one after another for their order: what is left decides as all did.
 use Rattle.std.proofs.Common.{◌≡◌, ℕ, ◌+◌, ◌<◌, ◌≤◌, Bool, true, false, ◌&&◌, leb, List, [], ◌∷◌, map, length, get_or, drop, sym, refl, ap, ◌∙◌, arith}
 use Rattle.std.proofs.lemmas.Bool.{le-leb, lt-leb}
-use Rattle.configuration.specs.declared.task.Task.{Task}
 use Rattle.configuration.specs.Config.{Pending}
 use Rattle.configuration.specs.Layout.{key}
 use Rattle.configuration.specs.Tests.{ascends}
-use Rattle.configuration.specs.Meaning.{frames_of}
+use Rattle.configuration.specs.Meaning.{Task, frames_of}
 use Rattle.configuration.proofs.CheckAll.{told_more, told_all}
 
 -- The tasks ascend, and none is below k.

@@ -1,8 +1,7 @@
 pub mod Configs
 pub mod Pendings
-pub mod Places
 pub mod Running
-pub mod Topmost
+pub mod Backwards
 pub mod ReadFrames
 pub mod ReadTasks
 pub mod ReadBuffers

@@ -1,61 +1,55 @@
 -- Frames read one after another: what was read and what the rest tells are together what all the bytes tell.
-use Rattle.std.proofs.Common.{◌≡◌, ℕ, zero, suc, ◌+◌, ◌-◌, ◌*◌, ◌<◌, ◌≤◌, false, eqb, List, [], ◌∷◌, ◌++◌, reverse, length, get_or, take, drop, set, sym, refl, ap, ◌∙◌, append_assoc, append-nil, add-zero, add-one, arith}
-use Rattle.std.proofs.lemmas.List.{get_or-drop, drop-drop, take_more, take_more_set, reverse-append}
+use Rattle.std.proofs.Common.{◌≡◌, ℕ, zero, suc, ◌-◌, ◌*◌, ◌<◌, ◌≤◌, eqb, List, [], ◌∷◌, ◌++◌, length, get_or, sym, refl, ap, ◌∙◌, append_assoc, append-nil, arith}
 use Rattle.std.proofs.lemmas.Bool.{eq-eqb, ne_eqb}
 use Rattle.configuration.specs.declared.frame.Frame.{Frame}
-use Rattle.configuration.specs.Config.{no_frame}
 use Rattle.configuration.specs.Reading.{unless, unslots}
-use Rattle.configuration.specs.Meaning.{topmost}
+use Rattle.configuration.proofs.Backwards.{one_longer}
 
--- Where a frame is left, what the rest tells is that frame and what is behind it, unless its place is zero.
-opened : (k at : ℕ) (bs : List ℕ) → unslots (suc k) (drop at bs) ≡ unless (eqb (get_or bs at 0) 0) (record { place = get_or bs at 0 - 1; l = get_or bs (at + 1) 0; level = get_or bs (at + 2) 0 }) (unslots k (drop (at + 3) bs))
+-- The frame that a slot tells.
+abbrev pub told : List ℕ → Frame
+told s = record { place = get_or s 0 0 - 1; l = get_or s 1 0; level = get_or s 2 0 }
+
+-- Bytes tell the frame of their first slot and those behind it, unless its place is zero.
+opened : (k : ℕ) (s r : List ℕ) → length s ≡ 3 → unslots (suc k) (s ++ r) ≡ unless (eqb (get_or s 0 0) 0) (told s) (unslots k r)
 unfolding unslots
-opened k at bs =
-    let e₀ : get_or (drop at bs) 0 0 ≡ get_or bs at 0 = get_or-drop at bs 0 0 ∙ ap (λ i. get_or bs i 0) (add-zero at) in
-    let e₁ = get_or-drop at bs 1 0 in
-    let e₂ = get_or-drop at bs 2 0 in
-    let e₃ = drop-drop 3 at bs in
-    cc
+opened k [] r h = absurd (omega arith)
+opened k (a ∷ []) r h = absurd (omega arith)
+opened k (a ∷ b ∷ []) r h = absurd (omega arith)
+opened k (a ∷ b ∷ c ∷ []) r h = refl
+opened k (a ∷ b ∷ c ∷ d ∷ s) r h = absurd (omega arith)
+
+none_left : (k : ℕ) (s r : List ℕ) → length s ≡ 3 → get_or s 0 0 ≡ 0 → unslots k (s ++ r) ≡ []
+unfolding unslots
+none_left zero s r h z = refl
+none_left (suc k) s r h z = opened k s r h ∙ ap (λ b. unless b (told s) (unslots k r)) (eq-eqb (get_or s 0 0) 0 z)
+
+-- The bytes of the first slots alone tell as many frames.
+pub unslots_front : (n : ℕ) (s r : List ℕ) → 3 * n ≤ length s → unslots n (s ++ r) ≡ unslots n s
+unfolding unslots
+unslots_front zero s r h = refl
+unslots_front (suc n) [] r h = absurd (omega arith)
+unslots_front (suc n) (a ∷ []) r h = absurd (omega arith)
+unslots_front (suc n) (a ∷ b ∷ []) r h = absurd (omega arith)
+unslots_front (suc n) (a ∷ b ∷ c ∷ s) r h =
+    ap (λ fs. unless (eqb a 0) (told (a ∷ b ∷ c ∷ s)) fs) (unslots_front n s r (omega arith))
 
 -- One frame more.
-pub frame_more : (n m : ℕ) (fs : List Frame) (bs : List ℕ) (rest : List Frame) → n < m → m ≡ length fs → (get_or bs (3 * n) 0 ≡ 0 → ⊥) → take n fs ++ unslots (m - n) (drop (3 * n) bs) ≡ rest → take (n + 1) (set fs n (record { place = get_or bs (3 * n) 0 - 1; l = get_or bs (3 * n + 1) 0; level = get_or bs (3 * n + 2) 0 })) ++ unslots (m - (n + 1)) (drop (3 * (n + 1)) bs) ≡ rest
-frame_more n m fs bs rest lt em ne inv =
-    let at = 3 * n in
-    let f : Frame = record { place = get_or bs at 0 - 1; l = get_or bs (at + 1) 0; level = get_or bs (at + 2) 0 } in
-    let k = m - (n + 1) in
-    let a : take (n + 1) (set fs n f) ≡ take n fs ++ f ∷ [] = take_more_set fs n f (omega arith) in
-    let z : eqb (get_or bs at 0) 0 ≡ false = ne_eqb (get_or bs at 0) 0 ne in
-    let o : unslots (suc k) (drop at bs) ≡ f ∷ unslots k (drop (at + 3) bs) = opened k at bs ∙ ap (λ b. unless b f (unslots k (drop (at + 3) bs))) z in
-    let i : m - n ≡ suc k = omega arith in
-    let j : at + 3 ≡ 3 * (n + 1) = omega arith in
-    ap (λ x. x ++ unslots k (drop (3 * (n + 1)) bs)) a
-    ∙ (append_assoc (take n fs) (f ∷ []) (unslots k (drop (3 * (n + 1)) bs))
-    ∙ (ap (λ x. take n fs ++ (f ∷ unslots k (drop x bs))) (sym j)
-    ∙ (ap (λ x. take n fs ++ x) (sym o) ∙ (ap (λ x. take n fs ++ unslots x (drop at bs)) (sym i) ∙ inv))))
+pub frame_more : (m : ℕ) (xs ys : List Frame) (bs s r : List ℕ) (all : List Frame) → length xs < m → length s ≡ 3 → bs ≡ s ++ r → (get_or s 0 0 ≡ 0 → ⊥) → ys ≡ xs ++ told s ∷ [] → xs ++ unslots (m - length xs) bs ≡ all → ys ++ unslots (m - length ys) r ≡ all
+frame_more m xs ys bs s r all lt h e ne more inv =
+    let k = m - length ys in
+    let i : m - length xs ≡ suc k = omega (arith, one_longer xs ys (told s) more, lt) in
+    let o : unslots (suc k) (s ++ r) ≡ told s ∷ unslots k r = opened k s r h ∙ ap (λ b. unless b (told s) (unslots k r)) (ne_eqb (get_or s 0 0) 0 ne) in
+    ap (λ fs. fs ++ unslots k r) more
+    ∙ (append_assoc xs (told s ∷ []) (unslots k r)
+    ∙ (ap (λ fs. xs ++ fs) (sym o)
+    ∙ (ap (λ b. xs ++ unslots (suc k) b) (sym e) ∙ (ap (λ n. xs ++ unslots n bs) (sym i) ∙ inv))))
 
 -- A zero place, or no more room: that is all.
-pub frame_none : (n m : ℕ) (fs : List Frame) (bs : List ℕ) (rest : List Frame) → n < m → get_or bs (3 * n) 0 ≡ 0 → take n fs ++ unslots (m - n) (drop (3 * n) bs) ≡ rest → take n fs ≡ rest
-frame_none n m fs bs rest lt e inv =
-    let at = 3 * n in
-    let f : Frame = record { place = get_or bs at 0 - 1; l = get_or bs (at + 1) 0; level = get_or bs (at + 2) 0 } in
-    let k = m - (n + 1) in
-    let i : m - n ≡ suc k = omega arith in
-    let o : unslots (suc k) (drop at bs) ≡ [] = opened k at bs ∙ ap (λ b. unless b f (unslots k (drop (at + 3) bs))) (eq-eqb (get_or bs at 0) 0 e) in
-    sym (append-nil (take n fs))
-    ∙ (ap (λ x. take n fs ++ x) (sym o) ∙ (ap (λ x. take n fs ++ unslots x (drop at bs)) (sym i) ∙ inv))
+pub frame_none : (k : ℕ) (xs : List Frame) (bs s r : List ℕ) (all : List Frame) → length s ≡ 3 → bs ≡ s ++ r → get_or s 0 0 ≡ 0 → xs ++ unslots k bs ≡ all → xs ≡ all
+frame_none k xs bs s r all h e z inv =
+    sym (append-nil xs)
+    ∙ (ap (λ fs. xs ++ fs) (sym (none_left k s r h z)) ∙ (ap (λ b. xs ++ unslots k b) (sym e) ∙ inv))
 
-pub frames_all : (k n m : ℕ) (fs : List Frame) (bs : List ℕ) (rest : List Frame) → k ≡ n → m ≤ n → take n fs ++ unslots (m - n) (drop (3 * n) bs) ≡ rest → take k fs ≡ rest
+pub frames_all : (k : ℕ) (xs : List Frame) (bs : List ℕ) (all : List Frame) → k ≡ 0 → xs ++ unslots k bs ≡ all → xs ≡ all
 unfolding unslots
-frames_all k n m fs bs rest e le inv =
-    let i : m - n ≡ 0 = omega arith in
-    ap (λ x. take x fs) e
-    ∙ (sym (append-nil (take n fs)) ∙ (ap (λ x. take n fs ++ unslots x (drop (3 * n) bs)) (sym i) ∙ inv))
-
--- The lowest frames, the uppermost of them first.
-pub topmost_take : (n : ℕ) (fs : List Frame) → n ≤ length fs → topmost fs n ≡ reverse (take n fs)
-unfolding topmost
-topmost_take zero fs le = refl
-topmost_take (suc n) fs le =
-    let a : take (suc n) fs ≡ take n fs ++ get_or fs n no_frame ∷ [] = ap (λ x. take x fs) (sym (add-one n)) ∙ take_more fs n no_frame (omega arith) in
-    ap (λ x. get_or fs n no_frame ∷ x) (topmost_take n fs (omega arith))
-    ∙ (sym (reverse-append (take n fs) (get_or fs n no_frame ∷ [])) ∙ ap reverse (sym a))
+frames_all k xs bs all z inv = sym (append-nil xs) ∙ (ap (λ n. xs ++ unslots n bs) (sym z) ∙ inv)

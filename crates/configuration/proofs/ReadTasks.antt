@@ -1,53 +1,54 @@
 -- Tasks read one after another: what was read and what the rest tells are together what all the bytes tell.
-use Rattle.std.proofs.Common.{◌≡◌, ℕ, suc, ◌+◌, ◌-◌, ◌*◌, ◌<◌, ◌≤◌, false, eqb, List, [], ◌∷◌, ◌++◌, map, length, get_or, take, drop, set, sym, ap, ◌∙◌, append_assoc, append-nil, add-zero, arith}
-use Rattle.std.proofs.lemmas.List.{get_or-drop, drop-drop, take_more_set, map_push}
+use Rattle.std.proofs.Common.{◌≡◌, ℕ, zero, suc, ◌-◌, ◌<◌, ◌≤◌, eqb, List, [], ◌∷◌, ◌++◌, map, reverse, length, get_or, sym, refl, ap, ◌∙◌, append_assoc, append-nil, arith}
+use Rattle.std.proofs.lemmas.List.{map_push, drop_at}
 use Rattle.std.proofs.lemmas.Bool.{eq-eqb, ne_eqb}
-use Rattle.configuration.specs.declared.task.Task.{Task}
 use Rattle.configuration.specs.Config.{Pending}
-use Rattle.configuration.specs.Reading.{unless, task_from, untasks}
-use Rattle.configuration.specs.Meaning.{frames_of}
+use Rattle.configuration.specs.Reading.{unless, unslots, task_from, untasks}
+use Rattle.configuration.specs.Meaning.{Task, frames_of}
+use Rattle.configuration.proofs.ReadFrames.{unslots_front}
+use Rattle.configuration.proofs.Backwards.{one_longer}
 
--- Where a task is left, what the rest tells is that task and what is behind it, unless its place is zero.
-opened : (k at : ℕ) (bs : List ℕ) → untasks (suc k) (drop at bs) ≡ unless (eqb (get_or bs at 0) 0) (task_from (drop at bs)) (untasks k (drop (at + 9) bs))
+-- Bytes tell the task of their first nine and those behind it, unless its place is zero.
+first_byte : (s r : List ℕ) → 1 ≤ length s → get_or (s ++ r) 0 0 ≡ get_or s 0 0
+first_byte [] r h = absurd (omega arith)
+first_byte (a ∷ s) r h = refl
+
+opened : (k : ℕ) (s r : List ℕ) → length s ≡ 9 → untasks (suc k) (s ++ r) ≡ unless (eqb (get_or s 0 0) 0) (reverse (unslots 3 s)) (untasks k r)
+unfolding untasks task_from
+opened k s r h =
+    let a = first_byte s r (omega (arith, h)) in
+    let b = unslots_front 3 s r (omega (arith, h)) in
+    let d = drop_at s r 9 h in
+    rw (a, b, d) refl
+
+none_left : (k : ℕ) (s r : List ℕ) → length s ≡ 9 → get_or s 0 0 ≡ 0 → untasks k (s ++ r) ≡ []
 unfolding untasks
-opened k at bs =
-    let e : get_or (drop at bs) 0 0 ≡ get_or bs at 0 = get_or-drop at bs 0 0 ∙ ap (λ i. get_or bs i 0) (add-zero at) in
-    let f = drop-drop 9 at bs in
-    cc
+none_left zero s r h z = refl
+none_left (suc k) s r h z = opened k s r h ∙ ap (λ b. unless b (reverse (unslots 3 s)) (untasks k r)) (eq-eqb (get_or s 0 0) 0 z)
 
 -- One task more.
-pub task_more : (n m : ℕ) (us : List Task) (u : Task) (bs : List ℕ) (rest : List Pending) → n < m → m ≡ length us → (get_or bs (9 * n) 0 ≡ 0 → ⊥) → frames_of u ≡ task_from (drop (9 * n) bs) → map frames_of (take n us) ++ untasks (m - n) (drop (9 * n) bs) ≡ rest → map frames_of (take (n + 1) (set us n u)) ++ untasks (m - (n + 1)) (drop (9 * (n + 1)) bs) ≡ rest
-task_more n m us u bs rest lt em ne eu inv =
-    let at = 9 * n in
-    let k = m - (n + 1) in
-    let done = map frames_of (take n us) in
-    let a : map frames_of (take (n + 1) (set us n u)) ≡ done ++ frames_of u ∷ [] = ap (map frames_of) (take_more_set us n u (omega arith)) ∙ map_push frames_of (take n us) u in
-    let z : eqb (get_or bs at 0) 0 ≡ false = ne_eqb (get_or bs at 0) 0 ne in
-    let o : untasks (suc k) (drop at bs) ≡ task_from (drop at bs) ∷ untasks k (drop (at + 9) bs) =
-    opened k at bs ∙ ap (λ b. unless b (task_from (drop at bs)) (untasks k (drop (at + 9) bs))) z in
-    let i : m - n ≡ suc k = omega arith in
-    let j : at + 9 ≡ 9 * (n + 1) = omega arith in
-    ap (λ x. x ++ untasks k (drop (9 * (n + 1)) bs)) a
-    ∙ (append_assoc done (frames_of u ∷ []) (untasks k (drop (9 * (n + 1)) bs))
-    ∙ (ap (λ x. done ++ (frames_of u ∷ untasks k (drop x bs))) (sym j)
-    ∙ (ap (λ x. done ++ (x ∷ untasks k (drop (at + 9) bs))) eu
-    ∙ (ap (λ x. done ++ x) (sym o) ∙ (ap (λ x. done ++ untasks x (drop at bs)) (sym i) ∙ inv)))))
+pub task_more : (m : ℕ) (us vs : List Task) (u : Task) (bs s r : List ℕ) (all : List Pending) → length us < m → length s ≡ 9 → bs ≡ s ++ r → (get_or s 0 0 ≡ 0 → ⊥) → frames_of u ≡ reverse (unslots 3 s) → vs ≡ us ++ u ∷ [] → map frames_of us ++ untasks (m - length us) bs ≡ all → map frames_of vs ++ untasks (m - length vs) r ≡ all
+task_more m us vs u bs s r all lt h e ne is more inv =
+    let k = m - length vs in
+    let t = reverse (unslots 3 s) in
+    let done = map frames_of us in
+    let i : m - length us ≡ suc k = omega (arith, one_longer us vs u more, lt) in
+    let o : untasks (suc k) (s ++ r) ≡ t ∷ untasks k r = opened k s r h ∙ ap (λ b. unless b t (untasks k r)) (ne_eqb (get_or s 0 0) 0 ne) in
+    let a : map frames_of vs ≡ done ++ t ∷ [] = ap (map frames_of) more ∙ (map_push frames_of us u ∙ ap (λ x. done ++ x ∷ []) is) in
+    ap (λ ts. ts ++ untasks k r) a
+    ∙ (append_assoc done (t ∷ []) (untasks k r)
+    ∙ (ap (λ ts. done ++ ts) (sym o)
+    ∙ (ap (λ b. done ++ untasks (suc k) b) (sym e) ∙ (ap (λ n. done ++ untasks n bs) (sym i) ∙ inv))))
 
 -- A zero place, or no more room: that is all.
-pub task_none : (n m : ℕ) (us : List Task) (bs : List ℕ) (rest : List Pending) → n < m → get_or bs (9 * n) 0 ≡ 0 → map frames_of (take n us) ++ untasks (m - n) (drop (9 * n) bs) ≡ rest → map frames_of (take n us) ≡ rest
-task_none n m us bs rest lt e inv =
-    let at = 9 * n in
-    let k = m - (n + 1) in
-    let done = map frames_of (take n us) in
-    let i : m - n ≡ suc k = omega arith in
-    let o : untasks (suc k) (drop at bs) ≡ [] =
-    opened k at bs ∙ ap (λ b. unless b (task_from (drop at bs)) (untasks k (drop (at + 9) bs))) (eq-eqb (get_or bs at 0) 0 e) in
-    sym (append-nil done) ∙ (ap (λ x. done ++ x) (sym o) ∙ (ap (λ x. done ++ untasks x (drop at bs)) (sym i) ∙ inv))
+pub task_none : (k : ℕ) (us : List Task) (bs s r : List ℕ) (all : List Pending) → length s ≡ 9 → bs ≡ s ++ r → get_or s 0 0 ≡ 0 → map frames_of us ++ untasks k bs ≡ all → map frames_of us ≡ all
+task_none k us bs s r all h e z inv =
+    let done = map frames_of us in
+    sym (append-nil done)
+    ∙ (ap (λ ts. done ++ ts) (sym (none_left k s r h z)) ∙ (ap (λ b. done ++ untasks k b) (sym e) ∙ inv))
 
-pub tasks_all : (k n m : ℕ) (us : List Task) (bs : List ℕ) (rest : List Pending) → k ≡ n → m ≤ n → map frames_of (take n us) ++ untasks (m - n) (drop (9 * n) bs) ≡ rest → map frames_of (take k us) ≡ rest
+pub tasks_all : (k : ℕ) (us : List Task) (bs : List ℕ) (all : List Pending) → k ≡ 0 → map frames_of us ++ untasks k bs ≡ all → map frames_of us ≡ all
 unfolding untasks
-tasks_all k n m us bs rest e le inv =
-    let i : m - n ≡ 0 = omega arith in
-    let done = map frames_of (take n us) in
-    ap (λ x. map frames_of (take x us)) e
-    ∙ (sym (append-nil done) ∙ (ap (λ x. done ++ untasks x (drop (9 * n) bs)) (sym i) ∙ inv))
+tasks_all k us bs all z inv =
+    let done = map frames_of us in
+    sym (append-nil done) ∙ (ap (λ n. done ++ untasks n bs) (sym z) ∙ inv)

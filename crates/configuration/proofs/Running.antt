@@ -1,57 +1,26 @@
--- How many uppermost frames have one level, counted from the top down.
-use Rattle.std.proofs.Common.{◌≡◌, ℕ, suc, ◌+◌, ◌-◌, ◌<◌, ◌≤◌, Bool, true, false, cond, eqb, List, [], ◌∷◌, ◌++◌, length, get_or, take, drop, set, Some, Option, sym, refl, ap, ◌∙◌, arith}
-use Rattle.std.proofs.lemmas.List.{get_or-drop}
-use Rattle.std.proofs.lemmas.Bool.{eq-eqb, ne_eqb, and_from, lt-ltb, le-leb}
+-- How many uppermost frames have one level, and what leaves and stays.
+use Rattle.std.proofs.Common.{◌≡◌, ℕ, suc, ◌<◌, ◌≤◌, Bool, true, false, ◌&&◌, cond, eqb, nat_lt, nat_le, List, [], ◌∷◌, length, take, drop, Some, None, Option, sym, refl, ap, ◌∙◌, arith}
+use Rattle.std.specs.List.{take_while}
+use Rattle.std.proofs.lemmas.List.Sums.{take_while-cons}
+use Rattle.std.proofs.lemmas.Bool.{and_from, lt-ltb, le-leb, lt-leb}
 use Rattle.configuration.specs.declared.frame.Frame.{Frame}
-use Rattle.configuration.specs.Config.{no_frame}
-use Rattle.configuration.specs.Meaning.{topmost}
 use Rattle.configuration.specs.Ops.{leaves, some_if, uppermost, beneath}
-use Rattle.configuration.specs.Tasks.{run, run_at, one_more_if}
-use Rattle.configuration.proofs.Topmost.{topmost_more, topmost_push, drop_topmost}
+use Rattle.configuration.specs.Tasks.{run, run_at, one_more_if, task_level}
 
-pub run_none : (fs : List Frame) (n : ℕ) → n ≡ 0 → 0 ≡ run (topmost fs n)
-unfolding topmost run
-run_none fs n e = rw e refl
+-- The run is counted at the level of the top frame.
+counted : (v : ℕ) (fs : List Frame) → length (take_while (λ f. eqb f.level v) fs) ≡ run_at v fs
+unfolding run_at
+counted v [] = refl
+counted v (f ∷ fs) = ap length (take_while-cons (λ g. eqb g.level v) f fs) ∙ by_test (eqb f.level v) (counted v fs)
+  where
+    by_test : (b : Bool) → length (take_while (λ g. eqb g.level v) fs) ≡ run_at v fs → length (cond b (f ∷ take_while (λ g. eqb g.level v) fs) []) ≡ one_more_if b (run_at v fs)
+    by_test true e = ap suc e
+    by_test false e = refl
 
--- The run is one at the level of the top frame.
-pub run_starts : (fs : List Frame) (n : ℕ) → 0 < n → run (topmost fs n) ≡ run_at (get_or fs (n - 1) no_frame).level (topmost fs n)
+pub run_counted : (fs : List Frame) → length (take_while (λ f. eqb f.level (task_level fs)) fs) ≡ run fs
 unfolding run
-run_starts fs n h = rw (topmost_more fs n h) refl
-
--- One frame more, and the end of it.
-pub run_more : (fs : List Frame) (v n : ℕ) → 0 < n → (get_or fs (n - 1) no_frame).level ≡ v → run_at v (topmost fs n) ≡ suc (run_at v (topmost fs (n - 1)))
-unfolding run_at
-run_more fs v n h e =
-    let b = eq-eqb (get_or fs (n - 1) no_frame).level v e in
-    rw (topmost_more fs n h) (ap (λ x. one_more_if x (run_at v (topmost fs (n - 1)))) b)
-
-pub run_ends : (fs : List Frame) (v n : ℕ) → 0 < n → ((get_or fs (n - 1) no_frame).level ≡ v → ⊥) → run_at v (topmost fs n) ≡ 0
-unfolding run_at
-run_ends fs v n h ne =
-    let b = ne_eqb (get_or fs (n - 1) no_frame).level v ne in
-    rw (topmost_more fs n h) (ap (λ x. one_more_if x (run_at v (topmost fs (n - 1)))) b)
-
-pub run_all : (fs : List Frame) (v n : ℕ) → n ≡ 0 → run_at v (topmost fs n) ≡ 0
-unfolding run_at topmost
-run_all fs v n e = rw e refl
-
--- One more frame, copied from a on.
-pub copied_more : (fs gs : List Frame) (a i : ℕ) → i < length gs → topmost gs i ≡ topmost (drop a fs) i → topmost (set gs i (get_or fs (a + i) no_frame)) (i + 1) ≡ topmost (drop a fs) (i + 1)
-unfolding topmost
-copied_more fs gs a i h e =
-    let p = topmost_push gs i (get_or fs (a + i) no_frame) h in
-    let q = topmost_more (drop a fs) (i + 1) (omega arith) in
-    let k : i + 1 - 1 ≡ i = omega arith in
-    let d = get_or-drop a fs i no_frame in
-    p ∙ sym (rw k at q ∙ (cc))
-
--- One more frame of a task on top.
-pub raised_more : (fs us rest : List Frame) (n i : ℕ) → n < length fs → topmost fs n ≡ topmost us i ++ rest → topmost (set fs n (get_or us i no_frame)) (n + 1) ≡ topmost us (i + 1) ++ rest
-raised_more fs us rest n i h e =
-    let p = topmost_push fs n (get_or us i no_frame) h in
-    let q = topmost_more us (i + 1) (omega arith) in
-    let k : i + 1 - 1 ≡ i = omega arith in
-    p ∙ (ap (λ (xs : List Frame). get_or us i no_frame ∷ xs) e ∙ sym (ap (λ (xs : List Frame). xs ++ rest) (rw k at q)))
+run_counted [] = refl
+run_counted (f ∷ fs) = counted f.level (f ∷ fs)
 
 at_most : (b : Bool) (m n : ℕ) → m ≤ n → one_more_if b m ≤ suc n
 at_most true m n h = omega arith
@@ -78,9 +47,21 @@ leaves_some fs u k e h le t =
     let some : Bool → Option (List Frame) = λ b. some_if b (take (run fs) fs) in
     ap Some (t ∙ ap (λ (n : ℕ). take n fs) e) ∙ sym (ap some b)
 
-pub stays_some : (fs : List Frame) (n k : ℕ) → k ≡ run (topmost fs n) → 0 < k → k ≤ 3 → k ≤ n → topmost fs (n - k) ≡ beneath (topmost fs n)
-stays_some fs n k e h le l =
-    let b = leaves_true (topmost fs n) k e h le in
-    let d = drop_topmost fs k n l in
-    let stays : Bool → List Frame = λ b. cond b (drop (run (topmost fs n)) (topmost fs n)) (topmost fs n) in
-    sym d ∙ (ap (λ (m : ℕ). drop m (topmost fs n)) e ∙ sym (ap stays b))
+pub stays_some : (fs us : List Frame) (k : ℕ) → k ≡ run fs → 0 < k → k ≤ 3 → us ≡ drop k fs → us ≡ beneath fs
+stays_some fs us k e h le d =
+    let b = leaves_true fs k e h le in
+    let stays : Bool → List Frame = λ b. cond b (drop (run fs) fs) fs in
+    d ∙ (ap (λ (m : ℕ). drop m fs) e ∙ sym (ap stays b))
+
+leaves_false : (fs : List Frame) (k : ℕ) → k ≡ run fs → 3 < k → leaves fs ≡ false
+leaves_false fs k e h = and_last (nat_lt 0 (run fs)) (nat_le (run fs) 3) (lt-leb (run fs) 3 (omega arith))
+  where
+    and_last : (a b : Bool) → b ≡ false → (a && b) ≡ false
+    and_last true b e = e
+    and_last false b e = refl
+
+pub leaves_none : (fs : List Frame) (k : ℕ) → k ≡ run fs → 3 < k → None ≡ uppermost fs
+leaves_none fs k e h = sym (ap (λ b. some_if b (take (run fs) fs)) (leaves_false fs k e h))
+
+pub stays_none : (fs : List Frame) (k : ℕ) → k ≡ run fs → 3 < k → fs ≡ beneath fs
+stays_none fs k e h = sym (ap (λ b. cond b (drop (run fs) fs) fs) (leaves_false fs k e h))

@@ -1,12 +1,12 @@
 -- Buffers written one after another.
 use Rattle.std.proofs.Common.{◌≡◌, ℕ, ◌+◌, ◌*◌, ◌<◌, ◌≤◌, List, [], ◌∷◌, ◌++◌, map, reverse, length, get_or, take, drop, sym, ap, ◌∙◌, append-nil, arith, length-append, length-drop}
 use borrow.Rule.Slice.PartMut.{put_mid}
-use Rattle.std.proofs.lemmas.List.{take_all, take_at, drop_more, drop_all, reverse-reverse}
+use Rattle.std.proofs.lemmas.List.{take_all, take_at, drop_more, drop_all}
 use Rattle.configuration.specs.declared.buffer.Buffer.{Buffer}
 use Rattle.configuration.specs.Layout.{slots, task_slots, buffer_bytes, all_bytes}
-use Rattle.configuration.specs.Meaning.{state_of, frames_of}
-use Rattle.configuration.proofs.ReadFrames.{topmost_take}
-use Rattle.configuration.proofs.WriteTasks.{part_more}
+use Rattle.configuration.specs.Meaning.{frames_on, tasks_of, state_of}
+use Rattle.configuration.specs.Bytes.{slots_long}
+use Rattle.configuration.proofs.WriteFrames.{part_more}
 
 -- Two parts that fill the room.
 two_put : (x k : ℕ) (o a b : List ℕ) → length a ≡ x → length o ≤ x + k → put_mid x k (a ++ drop x o) b ≡ a ++ b
@@ -16,18 +16,11 @@ two_put x k o a b ea el =
     ap (λ y. y ++ (b ++ drop k (drop x (a ++ drop x o)))) t
     ∙ (ap (λ y. a ++ (b ++ y)) d ∙ ap (λ y. a ++ y) (append-nil b))
 
-pub buffer_put : (x : Buffer) (o a b : List ℕ) → length x.stack.frames ≡ 8 → length x.tasks ≡ 6 → length o ≡ 78 → length a ≡ 24 → a ≡ slots (length x.stack.frames) (take x.stack.depth x.stack.frames) → b ≡ task_slots (length x.tasks) (map frames_of (take x.pending x.tasks)) → put_mid 24 54 (a ++ drop 24 o) b ≡ buffer_bytes (state_of x)
+pub buffer_put : (x : Buffer) (o a b : List ℕ) → length o ≡ 78 → a ≡ slots 8 (reverse (frames_on x.stack)) → b ≡ task_slots 6 (tasks_of x) → put_mid 24 54 (a ++ drop 24 o) b ≡ buffer_bytes (state_of x)
 unfolding buffer_bytes
-buffer_put x o a b es et eo ea e f =
-    let few = x.stack.few in
-    let s = x.stack.frames in
-    let d = x.stack.depth in
-    let t : slots (length s) (take d s) ≡ slots 8 (reverse (state_of x).stack) =
-    ap (λ n. slots n (take d s)) es
-    ∙ ap (slots 8) (sym (ap reverse (topmost_take d s (omega arith)) ∙ reverse-reverse (take d s))) in
-    two_put 24 54 o a b ea (omega arith)
-    ∙ (ap (λ y. y ++ b) (e ∙ t)
-    ∙ ap (λ y. slots 8 (reverse (state_of x).stack) ++ y) (f ∙ ap (λ n. task_slots n (map frames_of (take x.pending x.tasks))) et))
+buffer_put x o a b eo e f =
+    two_put 24 54 o a b (ap length e ∙ slots_long 8 (reverse (frames_on x.stack))) (omega arith)
+    ∙ (ap (λ y. y ++ b) e ∙ ap (λ y. slots 8 (reverse (frames_on x.stack)) ++ y) f)
 
 -- One buffer more.
 pub buffer_next : (n k : ℕ) (xs : List Buffer) (x : Buffer) (o w rest : List ℕ) → n < length xs → length o ≡ 78 * length xs → k ≡ 78 → length w ≡ 78 → x ≡ get_or xs n x → w ≡ buffer_bytes (state_of x) → take (78 * n) o ++ all_bytes (map state_of (drop n xs)) ≡ rest → take (78 * (n + 1)) (put_mid (78 * n) k o w) ++ all_bytes (map state_of (drop (n + 1) xs)) ≡ rest

@@ -1,67 +1,46 @@
 -- Frames written one after another: what was written and the bytes of the rest are together the bytes of all.
-use Rattle.std.proofs.Common.{◌≡◌, ℕ, suc, ◌+◌, ◌-◌, ◌*◌, ◌<◌, ◌≤◌, List, [], ◌∷◌, ◌++◌, length, get_or, take, drop, set, sym, ap, ◌∙◌, append_assoc, append-nil, arith, length-set, length-take}
-use Rattle.std.proofs.lemmas.List.{take_more_set, take_all, drop_more, drop_all, get_or-take}
+use Rattle.std.proofs.Common.{◌≡◌, ℕ, zero, suc, ◌+◌, ◌-◌, ◌*◌, ◌<◌, ◌≤◌, List, [], ◌∷◌, ◌++◌, length, take, drop, Some, None, Option, sym, refl, ap, ◌∙◌, append_assoc, append-nil, add-one, arith}
+use borrow.Rule.Slice.PartMut.{put_mid}
+use Rattle.std.specs.List.{slice_get}
+use Rattle.std.proofs.lemmas.List.{take_all}
+use Rattle.std.proofs.lemmas.Slice.{take-put_mid}
 use Rattle.configuration.specs.declared.frame.Frame.{Frame}
-use Rattle.configuration.specs.Config.{no_frame}
-use Rattle.configuration.specs.Layout.{mark, slots}
+use Rattle.configuration.specs.Layout.{slots}
+use Rattle.configuration.specs.Ops.{slot}
 
--- Three bytes written at a place.
-abbrev pub three : List ℕ → ℕ → ℕ → ℕ → ℕ → List ℕ
-three o at a b c = set (set (set o at a) (at + 1) b) (at + 2) c
+-- One part more: w is its bytes, s those of the parts behind it.
+pub part_more : (z n k : ℕ) (o w s rest : List ℕ) → k ≡ z → length w ≡ z → z * n + z ≤ length o → z * (n + 1) ≡ z * n + z → take (z * n) o ++ (w ++ s) ≡ rest → take (z * (n + 1)) (put_mid (z * n) k o w) ++ s ≡ rest
+part_more z n k o w s rest ek ew le ez inv =
+    ap (λ x. x ++ s) (take-put_mid (z * n) k o w (z * (n + 1)) (omega arith) (omega arith))
+    ∙ (append_assoc (take (z * n) o) w s ∙ inv)
 
-take_three : (o : List ℕ) (at a b c : ℕ) → at + 3 ≤ length o → take (at + 3) (three o at a b c) ≡ take at o ++ (a ∷ b ∷ c ∷ [])
-take_three o at a b c le =
-    let x : List ℕ = set o at a in
-    let y : List ℕ = set x (at + 1) b in
-    let e₁ : take (at + 1) x ≡ take at o ++ a ∷ [] = take_more_set o at a (omega arith) in
-    let e₂ : take (at + 1 + 1) y ≡ take (at + 1) x ++ b ∷ [] = take_more_set x (at + 1) b (omega (arith, length-set o at a)) in
-    let e₃ : take (at + 2 + 1) (set y (at + 2) c) ≡ take (at + 2) y ++ c ∷ [] =
-    take_more_set y (at + 2) c (omega (arith, length-set o at a, length-set x (at + 1) b)) in
-    let i₂ : at + 1 + 1 ≡ at + 2 = omega arith in
-    let i₃ : at + 2 + 1 ≡ at + 3 = omega arith in
-    ap (λ i. take i (set y (at + 2) c)) (sym i₃)
-    ∙ (e₃
-    ∙ (ap (λ i. take i y ++ c ∷ []) (sym i₂)
-    ∙ (ap (λ z. z ++ c ∷ []) (e₂ ∙ ap (λ z. z ++ b ∷ []) e₁)
-    ∙ (append_assoc (take at o ++ a ∷ []) (b ∷ []) (c ∷ []) ∙ append_assoc (take at o) (a ∷ []) (b ∷ c ∷ [])))))
-
--- One slot more: s is the bytes of the slots from it on.
-one_more : (n m : ℕ) (o o' : List ℕ) (a b c : ℕ) (s rest : List ℕ) → 3 * n + 3 ≤ length o → o' ≡ three o (3 * n) a b c → take (3 * n) o ++ (a ∷ b ∷ c ∷ s) ≡ rest → take (3 * (n + 1)) o' ++ s ≡ rest
-one_more n m o o' a b c s rest le e inv =
-    let i : 3 * (n + 1) ≡ 3 * n + 3 = omega arith in
-    ap (λ x. take (3 * (n + 1)) x ++ s) e
-    ∙ (ap (λ x. take x (three o (3 * n) a b c) ++ s) i
-    ∙ (ap (λ x. x ++ s) (take_three o (3 * n) a b c le) ∙ (append_assoc (take (3 * n) o) (a ∷ b ∷ c ∷ []) s ∙ inv)))
-
-pub frame_put : (n d : ℕ) (fs : List Frame) (o o' : List ℕ) (a : ℕ) (rest : List ℕ) → n < d → n < length fs → length o ≡ 3 * length fs → a ≡ mark (get_or fs n no_frame) → o' ≡ three o (3 * n) a (get_or fs n no_frame).l (get_or fs n no_frame).level → take (3 * n) o ++ slots (length fs - n) (drop n (take d fs)) ≡ rest → take (3 * (n + 1)) o' ++ slots (length fs - (n + 1)) (drop (n + 1) (take d fs)) ≡ rest
+-- The slots from a place on begin with the one at that place.
+slots_opened : (j n : ℕ) (xs : List Frame) → slots (suc j) (drop n xs) ≡ slot (slice_get xs n) ++ slots j (drop (suc n) xs)
 unfolding slots
-frame_put n d fs o o' a rest ld lf el ea e inv =
-    let f = get_or fs n no_frame in
-    let k = length fs - (n + 1) in
-    let i : length fs - n ≡ suc k = omega arith in
-    let t : drop n (take d fs) ≡ f ∷ drop (n + 1) (take d fs) =
-    drop_more (take d fs) n no_frame (omega (arith, length-take d fs))
-    ∙ ap (λ x. x ∷ drop (n + 1) (take d fs)) (get_or-take d fs n no_frame ld) in
-    one_more n (length fs) o o' a f.l f.level (slots k (drop (n + 1) (take d fs))) rest (omega arith) e
-    (ap (λ x. take (3 * n) o ++ (x ∷ f.l ∷ f.level ∷ slots k (drop (n + 1) (take d fs)))) ea
-    ∙ (ap (λ x. take (3 * n) o ++ slots (suc k) x) (sym t)
-    ∙ (ap (λ x. take (3 * n) o ++ slots x (drop n (take d fs))) (sym i) ∙ inv)))
+slots_opened j zero [] = refl
+slots_opened j zero (x ∷ xs) = refl
+slots_opened j (suc n) [] = refl
+slots_opened j (suc n) (x ∷ xs) = slots_opened j n xs
 
-pub zeros_put : (n d : ℕ) (fs : List Frame) (o o' rest : List ℕ) → d ≤ n → n < length fs → length o ≡ 3 * length fs → o' ≡ three o (3 * n) 0 0 0 → take (3 * n) o ++ slots (length fs - n) (drop n (take d fs)) ≡ rest → take (3 * (n + 1)) o' ++ slots (length fs - (n + 1)) (drop (n + 1) (take d fs)) ≡ rest
-unfolding slots
-zeros_put n d fs o o' rest ld lf el e inv =
-    let k = length fs - (n + 1) in
-    let i : length fs - n ≡ suc k = omega arith in
-    let t : drop n (take d fs) ≡ [] = drop_all n (take d fs) (omega (arith, length-take d fs)) in
-    let u : drop (n + 1) (take d fs) ≡ [] = drop_all (n + 1) (take d fs) (omega (arith, length-take d fs)) in
-    ap (λ x. take (3 * (n + 1)) o' ++ slots k x) u
-    ∙ one_more n (length fs) o o' 0 0 0 (slots k []) rest (omega arith) e
-    (ap (λ x. take (3 * n) o ++ slots (suc k) x) (sym t)
-    ∙ (ap (λ x. take (3 * n) o ++ slots x (drop n (take d fs))) (sym i) ∙ inv))
+slot_long : (o : Option Frame) → length (slot o) ≡ 3
+slot_long None = refl
+slot_long (Some f) = refl
 
-pub slots_all : (n m : ℕ) (fs : List Frame) (o rest : List ℕ) → m ≤ n → length o ≡ 3 * m → take (3 * n) o ++ slots (m - n) fs ≡ rest → o ≡ rest
+-- One slot more.
+pub slot_put : (n m k : ℕ) (xs : List Frame) (o w rest : List ℕ) → n < m → length o ≡ 3 * m → k ≡ 3 → w ≡ slot (slice_get xs n) → take (3 * n) o ++ slots (m - n) (drop n xs) ≡ rest → take (3 * (n + 1)) (put_mid (3 * n) k o w) ++ slots (m - (n + 1)) (drop (n + 1) xs) ≡ rest
+slot_put n m k xs o w rest lt el ek e inv =
+    let j = m - (n + 1) in
+    let i : m - n ≡ suc j = omega arith in
+    let s = slots j (drop (n + 1) xs) in
+    let t : slots (suc j) (drop n xs) ≡ w ++ s =
+    slots_opened j n xs
+    ∙ (ap (λ x. slot (slice_get xs n) ++ slots j (drop x xs)) (sym (add-one n)) ∙ ap (λ x. x ++ s) (sym e)) in
+    part_more 3 n k o w s rest ek (ap length e ∙ slot_long (slice_get xs n)) (omega arith) (omega arith)
+    (ap (λ x. take (3 * n) o ++ x) (sym t) ∙ (ap (λ x. take (3 * n) o ++ slots x (drop n xs)) (sym i) ∙ inv))
+
+pub slots_all : (n m : ℕ) (xs : List Frame) (o rest : List ℕ) → m ≤ n → length o ≡ 3 * m → take (3 * n) o ++ slots (m - n) xs ≡ rest → o ≡ rest
 unfolding slots
-slots_all n m fs o rest le el inv =
+slots_all n m xs o rest le el inv =
     let i : m - n ≡ 0 = omega arith in
     let t : take (3 * n) o ≡ o = take_all (3 * n) o (omega arith) in
-    sym t ∙ (sym (append-nil (take (3 * n) o)) ∙ (ap (λ x. take (3 * n) o ++ slots x fs) (sym i) ∙ inv))
+    sym t ∙ (sym (append-nil (take (3 * n) o)) ∙ (ap (λ x. take (3 * n) o ++ slots x xs) (sym i) ∙ inv))

@@ -1,60 +1,37 @@
 -- Tasks written one after another: what was written and the bytes of the rest are together the bytes of all.
-use Rattle.std.proofs.Common.{◌≡◌, ℕ, suc, ◌+◌, ◌-◌, ◌*◌, ◌<◌, ◌≤◌, List, [], ◌∷◌, ◌++◌, map, reverse, length, get_or, take, drop, sym, ap, ◌∙◌, append_assoc, append-nil, arith, length-take}
+use Rattle.std.proofs.Common.{◌≡◌, ℕ, zero, suc, ◌+◌, ◌-◌, ◌*◌, ◌<◌, ◌≤◌, List, [], ◌∷◌, ◌++◌, map, reverse, length, take, drop, sym, refl, ap, ◌∙◌, append-nil, add-one, arith}
 use borrow.Rule.Slice.PartMut.{put_mid}
-use Rattle.std.proofs.lemmas.List.{take_all, drop_more, drop_all, get_or-take, reverse-reverse}
-use Rattle.std.proofs.lemmas.Slice.{take-put_mid}
-use Rattle.configuration.specs.declared.task.Task.{Task}
+use Rattle.std.specs.List.{slice_get}
+use Rattle.std.specs.Option.{unwrap_or}
+use Rattle.std.proofs.lemmas.List.{take_all}
 use Rattle.configuration.specs.Config.{Pending}
 use Rattle.configuration.specs.Layout.{slots, nine, task_slots}
-use Rattle.configuration.specs.Meaning.{frames_of}
-use Rattle.configuration.proofs.ReadFrames.{topmost_take}
+use Rattle.configuration.specs.Meaning.{Task, frames_of}
+use Rattle.configuration.specs.Bytes.{slots_long}
+use Rattle.configuration.proofs.WriteFrames.{part_more}
 
--- The nine bytes of a task that stands lowest first.
-pub nine_is : (u : Task) → u.depth ≤ length u.frames → nine (frames_of u) ≡ slots 3 (take u.depth u.frames)
-unfolding nine
-nine_is u le =
-    ap (slots 3) (ap reverse (topmost_take u.depth u.frames le) ∙ reverse-reverse (take u.depth u.frames))
-
--- One part more: w is its bytes, s those of the parts behind it.
-pub part_more : (z n k : ℕ) (o w s rest : List ℕ) → k ≡ z → length w ≡ z → z * n + z ≤ length o → z * (n + 1) ≡ z * n + z → take (z * n) o ++ (w ++ s) ≡ rest → take (z * (n + 1)) (put_mid (z * n) k o w) ++ s ≡ rest
-part_more z n k o w s rest ek ew le ez inv =
-    ap (λ x. x ++ s) (take-put_mid (z * n) k o w (z * (n + 1)) (omega arith) (omega arith))
-    ∙ (append_assoc (take (z * n) o) w s ∙ inv)
-
--- One task more, and zeros for one that is not there.
-pub task_put : (n p k d : ℕ) (us : List Task) (u : Task) (o w rest : List ℕ) → n < p → n < length us → length o ≡ 9 * length us → k ≡ 9 → length w ≡ 9 → u ≡ get_or us n u → d ≡ u.depth → length u.frames ≡ 3 → w ≡ slots (length u.frames) (take d u.frames) → take (9 * n) o ++ task_slots (length us - n) (map frames_of (drop n (take p us))) ≡ rest → take (9 * (n + 1)) (put_mid (9 * n) k o w) ++ task_slots (length us - (n + 1)) (map frames_of (drop (n + 1) (take p us))) ≡ rest
+-- The tasks from a place on begin with the one at that place, or with zeros.
+tasks_opened : (j n : ℕ) (us : List Task) (e : Task) → frames_of e ≡ [] → task_slots (suc j) (map frames_of (drop n us)) ≡ nine (frames_of (unwrap_or (slice_get us n) e)) ++ task_slots j (map frames_of (drop (suc n) us))
 unfolding task_slots
-task_put n p k d us u o w rest lp lu el ek ew eu ed ef e inv =
-    let j = length us - (n + 1) in
-    let i : length us - n ≡ suc j = omega arith in
-    let few = u.few in
-    let b : w ≡ nine (frames_of u) =
-    e
-    ∙ (ap (λ x. slots x (take d u.frames)) ef
-    ∙ (ap (λ x. slots 3 (take x u.frames)) ed ∙ sym (nine_is u (omega arith)))) in
-    let t : drop n (take p us) ≡ u ∷ drop (n + 1) (take p us) =
-    drop_more (take p us) n u (omega (arith, length-take p us))
-    ∙ ap (λ x. x ∷ drop (n + 1) (take p us)) (get_or-take p us n u lp ∙ sym eu) in
-    let s = task_slots j (map frames_of (drop (n + 1) (take p us))) in
-    part_more 9 n k o w s rest ek ew (omega arith) (omega arith)
-    (ap (λ x. take (9 * n) o ++ (x ++ s)) b
-    ∙ (ap (λ x. take (9 * n) o ++ task_slots (suc j) (map frames_of x)) (sym t)
-    ∙ (ap (λ x. take (9 * n) o ++ task_slots x (map frames_of (drop n (take p us)))) (sym i) ∙ inv)))
+tasks_opened j zero [] e h = ap (λ x. nine x ++ task_slots j []) (sym h)
+tasks_opened j zero (u ∷ us) e h = refl
+tasks_opened j (suc n) [] e h = ap (λ x. nine x ++ task_slots j []) (sym h)
+tasks_opened j (suc n) (u ∷ us) e h = tasks_opened j n us e h
 
-pub none_put : (n p k d : ℕ) (us : List Task) (u : Task) (o w rest : List ℕ) → p ≤ n → n < length us → length o ≡ 9 * length us → k ≡ 9 → length w ≡ 9 → d ≡ 0 → length u.frames ≡ 3 → w ≡ slots (length u.frames) (take d u.frames) → take (9 * n) o ++ task_slots (length us - n) (map frames_of (drop n (take p us))) ≡ rest → take (9 * (n + 1)) (put_mid (9 * n) k o w) ++ task_slots (length us - (n + 1)) (map frames_of (drop (n + 1) (take p us))) ≡ rest
-unfolding task_slots nine
-none_put n p k d us u o w rest lp lu el ek ew ed ef e inv =
-    let j = length us - (n + 1) in
-    let i : length us - n ≡ suc j = omega arith in
-    let b : w ≡ nine [] =
-    e ∙ (ap (λ x. slots x (take d u.frames)) ef ∙ ap (λ x. slots 3 (take x u.frames)) ed) in
-    let t : drop n (take p us) ≡ [] = drop_all n (take p us) (omega (arith, length-take p us)) in
-    let t' : drop (n + 1) (take p us) ≡ [] = drop_all (n + 1) (take p us) (omega (arith, length-take p us)) in
-    ap (λ x. take (9 * (n + 1)) (put_mid (9 * n) k o w) ++ task_slots j (map frames_of x)) t'
-    ∙ part_more 9 n k o w (task_slots j []) rest ek ew (omega arith) (omega arith)
-    (ap (λ x. take (9 * n) o ++ (x ++ task_slots j [])) b
-    ∙ (ap (λ x. take (9 * n) o ++ task_slots (suc j) (map frames_of x)) (sym t)
-    ∙ (ap (λ x. take (9 * n) o ++ task_slots x (map frames_of (drop n (take p us)))) (sym i) ∙ inv)))
+-- One task more.
+pub task_put : (n m k : ℕ) (us : List Task) (u e : Task) (o w rest : List ℕ) → n < m → length o ≡ 9 * m → k ≡ 9 → frames_of e ≡ [] → u ≡ unwrap_or (slice_get us n) e → w ≡ slots 3 (reverse (frames_of u)) → take (9 * n) o ++ task_slots (m - n) (map frames_of (drop n us)) ≡ rest → take (9 * (n + 1)) (put_mid (9 * n) k o w) ++ task_slots (m - (n + 1)) (map frames_of (drop (n + 1) us)) ≡ rest
+unfolding nine
+task_put n m k us u e o w rest lt el ek none eu is inv =
+    let j = m - (n + 1) in
+    let i : m - n ≡ suc j = omega arith in
+    let s = task_slots j (map frames_of (drop (n + 1) us)) in
+    let b : nine (frames_of (unwrap_or (slice_get us n) e)) ≡ w = ap (λ x. nine (frames_of x)) (sym eu) ∙ sym is in
+    let t : task_slots (suc j) (map frames_of (drop n us)) ≡ w ++ s =
+    tasks_opened j n us e none
+    ∙ (ap (λ x. nine (frames_of (unwrap_or (slice_get us n) e)) ++ task_slots j (map frames_of (drop x us))) (sym (add-one n))
+    ∙ ap (λ x. x ++ s) b) in
+    part_more 9 n k o w s rest ek (ap length is ∙ slots_long 3 (reverse (frames_of u))) (omega arith) (omega arith)
+    (ap (λ x. take (9 * n) o ++ x) (sym t) ∙ (ap (λ x. take (9 * n) o ++ task_slots x (map frames_of (drop n us))) (sym i) ∙ inv))
 
 pub tasks_put : (n m : ℕ) (us : List Pending) (o rest : List ℕ) → m ≤ n → length o ≡ 9 * m → take (9 * n) o ++ task_slots (m - n) us ≡ rest → o ≡ rest
 unfolding task_slots

@@ -1,13 +1,10 @@
-ghost use Rattle.std.specs.Prelude.{◌≤◌};
-
 use crate::stack::Stack;
 use crate::task::Task;
+use fixed::fixed_vec::FixedVec;
 
-// A buffer: its stack, up to 6 pending tasks, and how many there are.
+// A buffer: its stack, and up to 6 pending tasks.
 #[derive(Clone, Copy)]
 pub struct Buffer {
     pub(crate) stack: Stack,
-    pub(crate) tasks: [Task; 6],
-    pub(crate) pending: u8,
-    ghost few: { pending ≤ 6 },
+    pub(crate) tasks: FixedVec<Task, 6>,
 }

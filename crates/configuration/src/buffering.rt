@@ -1,15 +1,17 @@
 // What is asked of a buffer.
-ghost use Rattle.std.specs.Prelude.{◌≡◌, ◌≤◌, max, length, take};
-ghost use Rattle.std.specs.List.{slice_get};
+ghost use Rattle.std.specs.Prelude.{◌≡◌, ◌≤◌, length, nat_lt};
+ghost use Rattle.std.specs.List.{slice_get, take_while};
+ghost use Rattle.fixed.specs.Fixed.{listed};
 ghost use Rattle.configuration.specs.Config.{no_buffer};
-ghost use Rattle.configuration.specs.Meaning.{state_of, tasks_of};
+ghost use Rattle.configuration.specs.Layout.{key};
+ghost use Rattle.configuration.specs.Meaning.{frames_of, state_of, tasks_of};
 ghost use Rattle.configuration.specs.Ops.{rank, told_task};
 ghost use Rattle.configuration.specs.Tasks.{top};
 
-use crate::blank;
 use crate::buffer::Buffer;
 use crate::stack::Stack;
 use crate::task::Task;
+use fixed::fixed_vec::FixedVec;
 
 impl Buffer {
     pub fn empty() -> Buffer
@@ -17,8 +19,7 @@ impl Buffer {
     {
         Buffer {
             stack: Stack::empty(),
-            tasks: [Task::of(blank::FRAME); 6],
-            pending: 0,
+            tasks: FixedVec::new(Task::empty()),
         }
     }
 
@@ -33,67 +34,51 @@ impl Buffer {
         ensures stack { result.stack ≡ stack }
         ensures tasks { tasks_of result ≡ tasks_of self.now }
     {
-        let mut next = *self;
-        next.stack = stack;
-        next
+        Buffer { stack, ..*self }
     }
 
     // How many tasks are pending.
     pub fn pending(&self) -> u8
         ensures many { result ≡ length (tasks_of self.now) }
         ensures few { result ≤ 6 }
-        ensures held { result ≡ self.now.pending }
     {
-        self.waiting().len() as u8
-    }
-
-    // The tasks in use.
-    fn waiting(&self) -> &[Task]
-        ensures { (result.now ≡ take self.now.pending self.now.tasks) × (length result.now ≡ self.now.pending) }
-    {
-        &self.tasks[0..self.pending as usize]
+        self.tasks.len() as u8
     }
 
     // The pending task of a number.
     pub fn task(&self, number: u8) -> Option<Task>
         ensures { told_task result ≡ slice_get (tasks_of self.now) number }
     {
-        if number < self.pending {
-            Some(self.tasks[number as usize])
-        } else {
-            None
-        }
+        self.tasks.get(usize::from(number))
     }
 
     // The highest level of a pending task.
     pub fn top(&self) -> u8
         ensures { result ≡ top (tasks_of self.now) }
     {
+        let tasks = self.tasks.as_slice();
         let mut highest = 0;
-        for i in 0..self.pending {
-            highest = higher(highest, self.tasks[i as usize].level());
+        for task in tasks {
+            highest = task.level().max(highest);
         }
         highest
     }
 
-    // How many pending tasks stand before the first one whose key is not smaller.
-    pub(crate) fn rank(&self, least: u128) -> u8
-        ensures told { result ≡ rank least (tasks_of self.now) }
-        ensures within { result ≤ self.now.pending }
+    // How many pending tasks from the first one on have a smaller key.
+    fn smaller(&self, least: u128) -> usize
+        ensures { result ≡ length (take_while (λ u. nat_lt (key (frames_of u)) least) (listed self.now.tasks)) }
     {
-        let mut number = 0;
-        while number < self.pending {
-            if least <= self.tasks[number as usize].key() {
-                break;
-            }
-            number += 1;
-        }
-        number
+        self.tasks
+            .as_slice()
+            .iter()
+            .take_while(|task| task.key() < least)
+            .count()
     }
-}
 
-fn higher(a: u8, b: u8) -> u8
-    ensures { result ≡ max a b }
-{
-    if a < b { b } else { a }
+    // How many pending tasks stand before the first one whose key is not smaller.
+    pub(crate) fn rank(&self, least: u128) -> usize
+        ensures { result ≡ rank least (tasks_of self.now) }
+    {
+        self.smaller(least)
+    }
 }

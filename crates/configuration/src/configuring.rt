@@ -19,8 +19,7 @@ impl Configuration {
     pub fn globals(&self, count: u8) -> &[u8]
         ensures { result.now ≡ take count self.now.globals }
     {
-        let end = if count < 8 { count as usize } else { 8 };
-        &self.globals[0..end]
+        &self.globals[..usize::from(count.min(8))]
     }
 
     // All of them, used or not.
@@ -35,7 +34,7 @@ impl Configuration {
         ensures { (t : Table) → t.buffers ≡ buffers → state_of result ≡ buffer_at (config_of t self.now) k }
     {
         if k < buffers {
-            buffer_in(&self.buffers, k as usize)
+            buffer_in(&self.buffers, usize::from(k))
         } else {
             Buffer::empty()
         }
@@ -56,7 +55,7 @@ impl Configuration {
     fn put(&mut self, buffer: Buffer)
         ensures { self.new.buffers ≡ slice_set self.old.buffers self.old.active buffer }
     {
-        replace(&mut self.buffers, self.active as usize, buffer);
+        replace(&mut self.buffers, usize::from(self.active), buffer);
     }
 }
 
@@ -64,17 +63,14 @@ impl Configuration {
 fn buffer_in(buffers: &[Buffer], k: usize) -> Buffer
     ensures { state_of result ≡ slice_index_or (map state_of buffers.now) k no_buffer }
 {
-    if k < buffers.len() {
-        buffers[k]
-    } else {
-        Buffer::empty()
-    }
+    buffers.get(k).copied().unwrap_or(Buffer::empty())
 }
 
 // Puts a buffer at a place, unless that is past the end.
 fn replace(buffers: &mut [Buffer], k: usize, buffer: Buffer)
     ensures { buffers.new ≡ slice_set buffers.old k buffer }
 {
+    // by index, since once a part that is lent as mutable comes back, a proof knows only the slice's length
     if k < buffers.len() {
         buffers[k] = buffer;
     }

@@ -1,5 +1,5 @@
 // A frame: the place of its next statement, its own value l, and its level.
-#[derive(Clone, Copy)]
+#[derive(Clone, Copy, Default)]
 pub struct Frame {
     pub place: u8,
     pub l: u8,

@@ -1,50 +1,21 @@
-// Whether stacks, tasks, buffers and configurations are lawful.
-ghost use Rattle.std.specs.Prelude.{◌≡◌, map, nat_lt};
+// Whether buffers and configurations are lawful.
+ghost use Rattle.std.specs.Prelude.{◌≡◌, nat_lt};
 ghost use Rattle.std.specs.List.{list_all};
 ghost use Rattle.program.specs.Programs.{told};
-ghost use Rattle.configuration.specs.Tests.{lawful_task, lawful_stack, lawful_buffer, lawful_config};
-ghost use Rattle.configuration.specs.Meaning.{frames_on, frames_of, state_of, config_of};
+ghost use Rattle.configuration.specs.Tests.{lawful_task, lawful_buffer, lawful_config};
+ghost use Rattle.configuration.specs.Meaning.{frames_of, state_of, config_of};
 
 use crate::ascending::ascending;
 use crate::buffer::Buffer;
 use crate::configuration::Configuration;
-use crate::lawful_frames::{all_called, all_ranged, all_rest};
-use crate::stack::Stack;
 use crate::task::Task;
 use program::program::Program;
 
-impl Stack {
-    // The frames are in the value ranges, and each may stand on the one under it.
-    pub(crate) fn lawful(&self, program: &Program) -> bool
-        ensures { result ≡ lawful_stack (told program.now) (frames_on self.now) }
-    {
-        all_ranged(program, &self.frames, self.depth) && all_rest(program, &self.frames, self.depth)
-    }
-}
-
-impl Task {
-    // The same in a task, which has a frame at least.
-    pub(crate) fn lawful(&self, program: &Program) -> bool
-        ensures { result ≡ lawful_task (told program.now) (frames_of self.now) }
-    {
-        if self.depth == 0 {
-            return false;
-        }
-        all_ranged(program, &self.frames, self.depth)
-            && all_called(program, &self.frames, self.depth)
-    }
-}
-
-// Each task is lawful.
+// Each task is lawful. (A chain within a longer condition was tried: its result is found only as a whole function's.)
 fn lawful_tasks(program: &Program, tasks: &[Task]) -> bool
-    ensures { result ≡ list_all (lawful_task (told program.now)) (map frames_of tasks.now) }
+    ensures { result ≡ list_all (λ u. lawful_task (told program.now) (frames_of u)) tasks.now }
 {
-    for task in tasks {
-        if !task.lawful(program) {
-            return false;
-        }
-    }
-    true
+    tasks.iter().all(|task| task.lawful(program))
 }
 
 impl Buffer {
@@ -55,33 +26,23 @@ impl Buffer {
         if !self.stack.lawful(program) {
             return false;
         }
-        let tasks = &self.tasks[0..self.pending as usize];
+        let tasks = self.tasks.as_slice();
         lawful_tasks(program, tasks) && ascending(tasks)
     }
 }
 
 // Each buffer is lawful.
 fn lawful_buffers(program: &Program, buffers: &[Buffer]) -> bool
-    ensures { result ≡ list_all (lawful_buffer (told program.now)) (map state_of buffers.now) }
+    ensures { result ≡ list_all (λ b. lawful_buffer (told program.now) (state_of b)) buffers.now }
 {
-    for buffer in buffers {
-        if !buffer.lawful(program) {
-            return false;
-        }
-    }
-    true
+    buffers.iter().all(|buffer| buffer.lawful(program))
 }
 
 // All globals are values.
 fn all_values(values: u8, globals: &[u8]) -> bool
     ensures { result ≡ list_all (λ v. nat_lt v values) globals.now }
 {
-    for global in globals {
-        if *global >= values {
-            return false;
-        }
-    }
-    true
+    globals.iter().all(|global| *global < values)
 }
 
 impl Configuration {
@@ -93,8 +54,8 @@ impl Configuration {
         if self.active >= buffers {
             return false;
         }
-        let globals = &self.globals[0..program.globals() as usize];
+        let globals = &self.globals[0..usize::from(program.globals())];
         all_values(program.values(), globals)
-            && lawful_buffers(program, &self.buffers[0..buffers as usize])
+            && lawful_buffers(program, &self.buffers[0..usize::from(buffers)])
     }
 }

@@ -1,13 +1,16 @@
 // Whether frames are lawful, each by itself and on the one under it.
-ghost use Rattle.std.specs.Prelude.{◌≡◌, ◌≤◌, length};
-ghost use Rattle.std.specs.List.{list_all};
+ghost use Rattle.std.specs.Prelude.{◌≡◌, drop};
+ghost use Rattle.std.specs.List.{list_all, zip};
 ghost use Rattle.program.specs.Table.{statement_at};
 ghost use Rattle.program.specs.Programs.{told};
 ghost use Rattle.configuration.specs.Lawful.{is_call};
-ghost use Rattle.configuration.specs.Tests.{ranged_frame, rests_on, called_by, each_pair};
-ghost use Rattle.configuration.specs.Meaning.{topmost};
+ghost use Rattle.configuration.specs.Tests.{ranged_frame, rests_on, called_by, lawful_task, lawful_stack};
+ghost use Rattle.configuration.specs.Meaning.{frames_on, frames_of};
 
 use crate::frame::Frame;
+use crate::frames::Frames;
+use crate::stack::Stack;
+use crate::task::Task;
 use program::program::Program;
 use program::statement::Statement;
 
@@ -42,47 +45,58 @@ fn called(program: &Program, above: &Frame, below: &Frame) -> bool
     below.level == above.level && calls(program, below.place)
 }
 
-// The lowest `depth` frames are in the value ranges.
-pub(crate) fn all_ranged(program: &Program, frames: &[Frame], depth: u8) -> bool
-    requires { depth ≤ length frames.now }
-    ensures { result ≡ list_all (ranged_frame (told program.now)) (topmost frames.now depth) }
-{
-    let mut left = depth as usize;
-    while left > 0 {
-        left -= 1;
-        if !ranged(program, &frames[left]) {
-            return false;
-        }
+impl<const N: usize> Frames<N> {
+    // The frames are in the value ranges.
+    fn ranged(&self, program: &Program) -> bool
+        ensures { result ≡ list_all (ranged_frame (told program.now)) (frames_on self.now) }
+    {
+        self.frames
+            .as_slice()
+            .iter()
+            .rev()
+            .all(|frame| ranged(program, frame))
     }
-    true
 }
 
-// The lowest `depth` frames may stand on each other in a stack.
-pub(crate) fn all_rest(program: &Program, frames: &[Frame], depth: u8) -> bool
-    requires { depth ≤ length frames.now }
-    ensures { result ≡ each_pair (rests_on (told program.now)) (topmost frames.now depth) }
+// Each frame may stand in a stack right under the next one. (One function that takes the test as a closure was tried
+// for this and the next: of a chain whose closure calls a parameter the search does not find the result.)
+fn all_rest(program: &Program, frames: &[Frame]) -> bool
+    ensures { result ≡ list_all (λ p. rests_on (told program.now) p.1 p.0) (zip frames.now (drop 1 frames.now)) }
 {
-    let mut left = depth as usize;
-    while left > 1 {
-        left -= 1;
-        if !rests(program, &frames[left], &frames[left - 1]) {
-            return false;
-        }
-    }
-    true
+    frames
+        .iter()
+        .zip(frames.iter().skip(1))
+        .all(|(below, above)| rests(program, above, below))
 }
 
-// The lowest `depth` frames may stand on each other in a task.
-pub(crate) fn all_called(program: &Program, frames: &[Frame], depth: u8) -> bool
-    requires { depth ≤ length frames.now }
-    ensures { result ≡ each_pair (called_by (told program.now)) (topmost frames.now depth) }
+// Each frame may stand in a task right under the next one.
+fn all_called(program: &Program, frames: &[Frame]) -> bool
+    ensures { result ≡ list_all (λ p. called_by (told program.now) p.1 p.0) (zip frames.now (drop 1 frames.now)) }
 {
-    let mut left = depth as usize;
-    while left > 1 {
-        left -= 1;
-        if !called(program, &frames[left], &frames[left - 1]) {
+    frames
+        .iter()
+        .zip(frames.iter().skip(1))
+        .all(|(below, above)| called(program, above, below))
+}
+
+impl Stack {
+    // The frames are in the value ranges, and each may stand on the one under it.
+    #[tactic(auto, using(crate::proofs::CheckAll::first_passed, crate::proofs::CheckAll::first_failed), unfolding(crate::specs::Tests::lawful_stack))]
+    pub(crate) fn lawful(&self, program: &Program) -> bool
+        ensures { result ≡ lawful_stack (told program.now) (frames_on self.now) }
+    {
+        self.ranged(program) && all_rest(program, self.frames.as_slice())
+    }
+}
+
+impl Task {
+    // The same in a task, which has a frame at least.
+    pub(crate) fn lawful(&self, program: &Program) -> bool
+        ensures { result ≡ lawful_task (told program.now) (frames_of self.now) }
+    {
+        if self.frames.is_empty() {
             return false;
         }
+        self.ranged(program) && all_called(program, self.frames.as_slice())
     }
-    true
 }

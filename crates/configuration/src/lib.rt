@@ -2,7 +2,6 @@
 
 // Configurations of a program: frames, stacks, pending tasks, and the lines that tell them.
 mod ascending;
-mod blank;
 pub mod buffer;
 mod buffering;
 pub mod configuration;
@@ -10,14 +9,13 @@ mod configuring;
 mod decode;
 mod encode;
 pub mod frame;
+pub mod frames;
 mod key;
 mod lawful;
 mod lawful_frames;
 mod pending;
 mod read_buffers;
 mod read_frames;
-mod read_stack;
-mod read_tasks;
 pub mod reading;
 mod runs;
 pub mod stack;
@@ -27,4 +25,4 @@ pub mod task;
 mod tasks;
 mod write_buffers;
 mod write_frames;
-mod write_tasks;
+pub mod wrong_length;

@@ -1,12 +1,30 @@
 // Buffers as their bytes tell them.
 ghost use Rattle.std.specs.Prelude.{◌≡◌, ◌*◌, ◌≤◌, map, length};
-ghost use Rattle.configuration.specs.Reading.{buffer_from, unbuffers};
-ghost use Rattle.configuration.specs.Meaning.{state_of};
+ghost use Rattle.configuration.specs.Reading.{buffer_from, untasks, unbuffers};
+ghost use Rattle.configuration.specs.Meaning.{state_of, frames_of};
+ghost use Rattle.fixed.specs.Fixed.{listed};
 
-use crate::blank;
 use crate::buffer::Buffer;
-use crate::read_tasks::read_tasks;
 use crate::stack::Stack;
+use crate::task::Task;
+use fixed::fixed_vec::FixedVec;
+
+// Reads tasks up to the first zero place.
+fn read_tasks(bytes: &[u8]) -> FixedVec<Task, 6>
+    requires { 54 ≤ length bytes.now }
+    ensures { map frames_of (listed result) ≡ untasks 6 bytes.now }
+{
+    let mut tasks = FixedVec::new(Task::empty());
+    for nine in bytes.chunks_exact(9) {
+        if nine[0] == 0 {
+            return tasks;
+        }
+        if tasks.push(Task::read(nine)).is_err() {
+            return tasks;
+        }
+    }
+    tasks
+}
 
 impl Buffer {
     // The buffer that the first 78 bytes tell.
@@ -14,13 +32,9 @@ impl Buffer {
         requires { 78 ≤ length bytes.now }
         ensures { state_of result ≡ buffer_from bytes.now }
     {
-        let stack = Stack::read(bytes);
-        let mut tasks = [blank::TASK; 6];
-        let pending = read_tasks(&bytes[24..], &mut tasks);
         Buffer {
-            stack,
-            tasks,
-            pending,
+            stack: Stack::read(bytes),
+            tasks: read_tasks(&bytes[24..]),
         }
     }
 }
@@ -31,6 +45,7 @@ pub(crate) fn read_buffers(bytes: &[u8], out: &mut [Buffer])
     requires long { 78 * length out.old ≤ length bytes.now }
     ensures { map state_of out.new ≡ unbuffers (length out.old) bytes.now }
 {
+    // by index, since once parts that are lent as mutable come back, a proof knows only the slice's length
     for n in 0..out.len() {
         out[n] = Buffer::read(&bytes[78 * n..]);
     }

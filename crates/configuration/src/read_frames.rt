@@ -1,26 +1,32 @@
 // Frames as their bytes tell them.
-ghost use Rattle.std.specs.Prelude.{◌≡◌, ◌*◌, ◌≤◌, length, take};
+ghost use Rattle.std.specs.Prelude.{◌≡◌, ◌*◌, ◌≤◌, reverse, length};
 ghost use Rattle.configuration.specs.Reading.{unslots};
+ghost use Rattle.configuration.specs.Meaning.{frames_on};
 
 use crate::frame::Frame;
+use crate::frames::Frames;
+use fixed::fixed_vec::FixedVec;
 
-// Reads frames, the lowest first, up to the first zero place, and tells how many there are.
-pub(crate) fn read_frames(bytes: &[u8], out: &mut [Frame]) -> u8
-    requires few { length out.old ≤ 8 }
-    requires long { 3 * length out.old ≤ length bytes.now }
-    ensures most { result ≤ length out.old }
-    ensures told { take result out.new ≡ unslots (length out.old) bytes.now }
-{
-    for n in 0..out.len() {
-        let at = 3 * n;
-        if bytes[at] == 0 {
-            return n as u8;
+impl<const N: usize> Frames<N> {
+    // Reads frames, the lowest first, up to the first zero place.
+    pub(crate) fn read(bytes: &[u8]) -> Self
+        requires { 3 * N ≤ length bytes.now }
+        ensures { frames_on result ≡ reverse (unslots N bytes.now) }
+    {
+        let mut frames = FixedVec::new(Frame::default());
+        for slot in bytes.chunks_exact(3) {
+            if slot[0] == 0 {
+                return Frames { frames };
+            }
+            let frame = Frame {
+                place: slot[0] - 1,
+                l: slot[1],
+                level: slot[2],
+            };
+            if frames.push(frame).is_err() {
+                return Frames { frames };
+            }
         }
-        out[n] = Frame {
-            place: bytes[at] - 1,
-            l: bytes[at + 1],
-            level: bytes[at + 2],
-        };
+        Frames { frames }
     }
-    out.len() as u8
 }

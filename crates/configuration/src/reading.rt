@@ -1,5 +1,5 @@
 // Configurations and their lines.
-ghost use Rattle.std.specs.Prelude.{◌≡◌, ◌≤◌, length, if◌then◌else◌, Some, None, MatchOption, ◌==◌};
+ghost use Rattle.std.specs.Prelude.{◌≡◌, ◌≤◌, length, if◌then◌else◌, Some, None, MatchOption, is_ok, ◌==◌};
 ghost use Rattle.std.specs.Str.{bytes_eq};
 ghost use Rattle.program.specs.Programs.{told};
 ghost use Rattle.configuration.specs.Layout.{width, written};
@@ -7,21 +7,16 @@ ghost use Rattle.configuration.specs.Tests.{told_by};
 ghost use Rattle.configuration.specs.Meaning.{config_of};
 
 use crate::configuration::Configuration;
+use crate::wrong_length::WrongLength;
 use program::program::Program;
 
 // How many bytes the program's lines have: one for the active buffer, one for each global, 78 for each buffer.
+#[tactic(auto, unfolding(crate::specs::Layout::width))]
 pub fn line_width(program: &Program) -> usize
     ensures told { result ≡ width (told program.now) }
     ensures most { result ≤ 243 }
 {
-    1 + program.globals() as usize + 78 * program.buffers() as usize
-}
-
-// The bytes are the same.
-fn same(a: &[u8], b: &[u8]) -> bool
-    ensures { result ≡ bytes_eq a.now b.now }
-{
-    a == b
+    1 + usize::from(program.globals()) + 78 * usize::from(program.buffers())
 }
 
 impl Configuration {
@@ -34,6 +29,7 @@ impl Configuration {
     }
 
     // The same, with room to write the line again: what stands behind an unused place is not read, and has to be zero.
+    #[tactic(auto, using(crate::proofs::CheckLine::told_narrow, crate::proofs::CheckLine::told_lawless, crate::proofs::CheckLine::told_other, crate::proofs::CheckLine::told_lawful))]
     fn read_over(program: &Program, line: &[u8], work: &mut [u8]) -> Option<Configuration>
         requires { length work.old ≡ 256 }
         ensures { MatchOption result (told_by (told program.now) line.now ≡ None) (λ c. told_by (told program.now) line.now ≡ Some (config_of (told program.now) c)) }
@@ -59,18 +55,18 @@ impl Configuration {
     {
         let wide = line_width(program);
         self.encode(program, &mut work[0..wide]);
-        same(&work[0..wide], line)
+        &work[0..wide] == line
     }
 
-    // Writes the line into exactly as many bytes as it has, and tells whether there are as many; else it writes nothing.
-    pub fn write(&self, program: &Program, out: &mut [u8]) -> bool
-        ensures fits { result ≡ (length out.old == width (told program.now)) }
-        ensures done { out.new ≡ (if result then written (config_of (told program.now) self.now) else out.old) }
+    // Writes the line into exactly as many bytes as it has; where there are more or fewer, it writes nothing.
+    pub fn write(&self, program: &Program, out: &mut [u8]) -> Result<(), WrongLength>
+        ensures fits { is_ok result ≡ (length out.old == width (told program.now)) }
+        ensures done { out.new ≡ (if is_ok result then written (config_of (told program.now) self.now) else out.old) }
     {
         if out.len() != line_width(program) {
-            return false;
+            return Err(WrongLength);
         }
         self.encode(program, out);
-        true
+        Ok(())
     }
 }

@@ -1,31 +1,34 @@
 // Tasks that leave a stack, and tasks that are put on it.
-ghost use Rattle.std.specs.Prelude.{◌≡◌, ◌+◌, ◌≤◌, ◌++◌, length, take, if◌then◌else◌, nat_le};
+ghost use Rattle.std.specs.Prelude.{◌≡◌, ◌+◌, ◌==◌, ◌++◌, length, if◌then◌else◌, nat_le, is_ok};
+ghost use Rattle.std.specs.List.{take_while};
 ghost use Rattle.configuration.specs.Meaning.{frames_of, frames_on};
 ghost use Rattle.configuration.specs.Ops.{told_task, uppermost, beneath};
 ghost use Rattle.configuration.specs.Tasks.{run};
 
-use crate::blank;
-use crate::stack::Stack;
+use crate::frame::Frame;
+use crate::frames::Frames;
 use crate::task::Task;
+use fixed::fixed_vec::FixedVec;
+use fixed::full::Full;
 
-impl Stack {
+impl<const N: usize> Frames<N> {
+    // How many of the uppermost frames have that level.
+    fn run_at(&self, level: u8) -> usize
+        ensures { result ≡ length (take_while (λ f. f.level == level) (frames_on self.now)) }
+    {
+        self.frames
+            .as_slice()
+            .iter()
+            .rev()
+            .take_while(|frame| frame.level == level)
+            .count()
+    }
+
     // How many of the uppermost frames have one level.
-    pub fn run(&self) -> u8
+    pub fn run(&self) -> usize
         ensures { result ≡ run (frames_on self.now) }
     {
-        let depth = self.depth;
-        if depth == 0 {
-            return 0;
-        }
-        let level = self.frames[depth as usize - 1].level;
-        let mut left = depth;
-        while left > 0 {
-            if self.frames[left as usize - 1].level != level {
-                break;
-            }
-            left -= 1;
-        }
-        depth - left
+        self.run_at(self.level())
     }
 
     // Takes the uppermost frames of one level away, as a task; not if there are none or more than 3.
@@ -34,42 +37,23 @@ impl Stack {
         ensures after { frames_on self.new ≡ beneath (frames_on self.old) }
     {
         let count = self.run();
-        if count == 0 || count > 3 {
+        if count == 0 {
             return None;
         }
-        let task = self.uppermost(count);
-        self.depth -= count;
-        Some(task)
-    }
-
-    // So many of the uppermost frames, as a task.
-    fn uppermost(&self, count: u8) -> Task
-        requires { (count ≤ self.now.depth) × (count ≤ 3) }
-        ensures { frames_of result ≡ take count (frames_on self.now) }
-    {
-        let base = self.depth - count;
-        let mut frames = [blank::FRAME; 3];
-        for i in 0..count {
-            frames[i as usize] = self.frames[(base + i) as usize];
-        }
-        Task {
-            frames,
-            depth: count,
-        }
+        let base = self.frames.len() - count;
+        let uppermost = &self.frames.as_slice()[base..];
+        let Ok(frames) = FixedVec::from_slice(Frame::default(), uppermost) else {
+            return None;
+        };
+        self.frames.truncate(base);
+        Some(Frames { frames })
     }
 
     // Puts the frames of a task on top, if there is room for all.
-    pub fn raise(&mut self, u: Task) -> bool
-        ensures told { result ≡ nat_le (length (frames_of u) + length (frames_on self.old)) 8 }
-        ensures after { frames_on self.new ≡ (if result then frames_of u ++ frames_on self.old else frames_on self.old) }
+    pub fn raise(&mut self, u: Task) -> Result<(), Full>
+        ensures told { is_ok result ≡ nat_le (length (frames_of u) + length (frames_on self.old)) N }
+        ensures after { frames_on self.new ≡ (if is_ok result then frames_of u ++ frames_on self.old else frames_on self.old) }
     {
-        if u.depth + self.depth > 8 {
-            return false;
-        }
-        for i in 0..u.depth {
-            self.frames[self.depth as usize] = u.frames[i as usize];
-            self.depth += 1;
-        }
-        true
+        self.frames.extend_from_slice(u.frames.as_slice())
     }
 }

@@ -7,7 +7,6 @@ ghost use Rattle.configuration.specs.Start.{start_buffer, start_config};
 use crate::buffer::Buffer;
 use crate::configuration::Configuration;
 use crate::frame::Frame;
-use crate::stack::Stack;
 use crate::task::Task;
 use program::program::Program;
 
@@ -44,14 +43,14 @@ fn begun(mains: &[u8], number: usize) -> Buffer
     if number >= mains.len() {
         return Buffer::empty();
     }
-    let task = Task::of(Frame {
-        place: mains[number],
-        l: 0,
-        level: 0,
-    });
-    Buffer {
-        stack: Stack::empty(),
-        tasks: [task; 6],
-        pending: 1,
-    }
+    let mut buffer = Buffer::empty();
+    buffer
+        .tasks
+        .push(Task::of(Frame {
+            place: mains[number],
+            l: 0,
+            level: 0,
+        }))
+        .unwrap();
+    buffer
 }

@@ -1,11 +1,4 @@
-ghost use Rattle.std.specs.Prelude.{◌≤◌};
+use crate::frames::Frames;
 
-use crate::frame::Frame;
-
-// A pending task: up to 3 frames, the lowest first, and how many there are.
-#[derive(Clone, Copy)]
-pub struct Task {
-    pub(crate) frames: [Frame; 3],
-    pub(crate) depth: u8,
-    ghost few: { depth ≤ 3 },
-}
+// A pending task: up to 3 frames.
+pub type Task = Frames<3>;

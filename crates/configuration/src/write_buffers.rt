@@ -1,20 +1,32 @@
 // Buffers as bytes.
 ghost use Rattle.std.specs.Prelude.{◌≡◌, ◌*◌, ◌≤◌, map, length};
-ghost use Rattle.configuration.specs.Layout.{buffer_bytes, all_bytes};
-ghost use Rattle.configuration.specs.Meaning.{state_of};
+ghost use Rattle.configuration.specs.Layout.{task_slots, buffer_bytes, all_bytes};
+ghost use Rattle.configuration.specs.Meaning.{state_of, tasks_of};
 
 use crate::buffer::Buffer;
-use crate::write_frames::write_frames;
-use crate::write_tasks::write_tasks;
+use crate::task::Task;
 
 impl Buffer {
     // Writes the buffer into 78 bytes.
+    #[tactic(auto, using(crate::proofs::WriteBuffers::buffer_put))]
     pub(crate) fn write(&self, out: &mut [u8])
         requires { length out.old ≡ 78 }
         ensures { out.new ≡ buffer_bytes (state_of self.now) }
     {
-        write_frames(&self.stack.frames, self.stack.depth, &mut out[0..24]);
-        write_tasks(&self.tasks, self.pending, &mut out[24..78]);
+        self.stack.write(&mut out[0..24]);
+        self.write_tasks(&mut out[24..78]);
+    }
+
+    // Writes the tasks, and zeros in the unused places.
+    fn write_tasks(&self, out: &mut [u8])
+        requires { length out.old ≡ 54 }
+        ensures { out.new ≡ task_slots 6 (tasks_of self.now) }
+    {
+        // by index, since once parts that are lent as mutable come back, a proof knows only the slice's length
+        for n in 0..6 {
+            let task = self.tasks.get(n).unwrap_or(Task::empty());
+            task.write(&mut out[9 * n..9 * n + 9]);
+        }
     }
 }
 
@@ -24,6 +36,7 @@ pub(crate) fn write_buffers(buffers: &[Buffer], out: &mut [u8])
     requires long { length out.old ≡ 78 * length buffers.now }
     ensures { out.new ≡ all_bytes (map state_of buffers.now) }
 {
+    // by index, since once parts that are lent as mutable come back, a proof knows only the slice's length
     for n in 0..buffers.len() {
         buffers[n].write(&mut out[78 * n..78 * n + 78]);
     }

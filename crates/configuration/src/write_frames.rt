@@ -1,25 +1,32 @@
 // Frames as bytes.
-ghost use Rattle.std.specs.Prelude.{◌≡◌, ◌*◌, ◌≤◌, length, take};
+ghost use Rattle.std.specs.Prelude.{◌≡◌, ◌*◌, reverse, length};
 ghost use Rattle.configuration.specs.Layout.{slots};
+ghost use Rattle.configuration.specs.Meaning.{frames_on};
+ghost use Rattle.configuration.specs.Ops.{slot};
 
 use crate::frame::Frame;
+use crate::frames::Frames;
 
-// Writes the lowest `depth` frames, and zeros in place of the others.
-pub(crate) fn write_frames(frames: &[Frame], depth: u8, out: &mut [u8])
-    requires few { length frames.now ≤ 8 }
-    requires long { length out.old ≡ 3 * length frames.now }
-    ensures { out.new ≡ slots (length frames.now) (take depth frames.now) }
-{
-    for n in 0..frames.len() {
-        let at = 3 * n;
-        if n < depth as usize {
-            out[at] = frames[n].place.saturating_add(1);
-            out[at + 1] = frames[n].l;
-            out[at + 2] = frames[n].level;
-        } else {
-            out[at] = 0;
-            out[at + 1] = 0;
-            out[at + 2] = 0;
+impl<const N: usize> Frames<N> {
+    // Writes the frames, the lowest first, and zeros in the unused places.
+    pub(crate) fn write(&self, out: &mut [u8])
+        requires { length out.old ≡ 3 * N }
+        ensures { out.new ≡ slots N (reverse (frames_on self.now)) }
+    {
+        // by index, since once parts that are lent as mutable come back, a proof knows only the slice's length
+        for n in 0..N {
+            let at = 3 * n;
+            out[at..at + 3].copy_from_slice(&slot(self.frames.get(n)));
         }
+    }
+}
+
+// The three bytes of a frame, zeros where there is none.
+fn slot(frame: Option<Frame>) -> [u8; 3]
+    ensures { result ≡ slot frame }
+{
+    match frame {
+        Some(frame) => [frame.place.saturating_add(1), frame.l, frame.level],
+        None => [0; 3],
     }
 }

@@ -1,4 +1,4 @@
-pub mod Filtering
+pub mod Pushing
 pub mod Lookups
 pub mod Turning
 pub mod Rooms

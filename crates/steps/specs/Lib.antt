@@ -4,7 +4,6 @@ pub mod After
 pub mod System
 pub mod Laws
 pub mod Taken
-pub mod Listing
 pub mod Changes
 pub mod Eaches
 pub mod EachLabel

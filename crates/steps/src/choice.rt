@@ -1,5 +1,5 @@
 // What tells the steps of one statement apart.
-#[derive(Clone, Copy)]
+#[derive(Clone, Copy, PartialEq, Eq, Debug)]
 pub enum Choice {
     // there is only one
     Plain,

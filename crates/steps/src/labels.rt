@@ -1,11 +1,14 @@
-ghost use Rattle.std.specs.Prelude.{◌≡◌, ◌≤◌, length};
-
+use crate::choice::Choice;
 use crate::label::Label;
+use fixed::fixed_vec::FixedVec;
+use program::kind::Kind;
 
-// Up to 16 labels, in the order of the steps, and how many there are.
-#[derive(Clone, Copy)]
-pub(crate) struct Labels {
-    pub(crate) items: [Label; 16],
-    pub(crate) count: u8,
-    ghost few: { (count ≤ 16) × (length items ≡ 16) },
-}
+// Up to 16 labels, in the order of the steps.
+pub(crate) type Labels = FixedVec<Label, 16>;
+
+// What unused room holds.
+pub(crate) const UNUSED: Label = Label {
+    kind: Kind::Skip,
+    choice: Choice::Plain,
+    fits: false,
+};

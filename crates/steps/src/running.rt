@@ -9,9 +9,8 @@ use configuration::frame::Frame;
 pub(crate) fn running(buffer: &Buffer) -> Option<Frame>
     ensures { MatchOption result (runs (state_of buffer.now) ≡ false) (λ f. (runs (state_of buffer.now) ≡ true) × ((state_of buffer.now).stack ≡ f ∷ drop 1 (state_of buffer.now).stack)) }
 {
-    let frame = buffer.stack().top()?;
-    if buffer.top() > frame.level {
-        return None;
-    }
-    Some(frame)
+    buffer
+        .stack()
+        .top()
+        .filter(|frame| frame.level >= buffer.top())
 }

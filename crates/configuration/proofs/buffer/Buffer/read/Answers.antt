@@ -6,6 +6,6 @@ use Rattle.configuration.proofs.buffer.Buffer.read.Goals as goal
 pub returns : goal.returns
 unfolding buffer_from
 returns c =
-    let s = c.read-stack.ensures in
-    let p = c.read_tasks-pending.ensures.told ∙ ap (untasks 6) (take_rest c.args.bytes.now 24) in
+    let s = c.read.ensures in
+    let p = c.read_tasks.ensures ∙ ap (untasks 6) (take_rest c.args.bytes.now 24) in
     cc

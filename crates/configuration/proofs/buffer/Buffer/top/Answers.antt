@@ -1,12 +1,10 @@
-use Rattle.std.proofs.Common.{arith, rules}
 use Rattle.configuration.proofs.Pendings.{top_more, top_end}
 use Rattle.configuration.proofs.buffer.Buffer.top.Goals as goal
 
-pub loop-i-init : goal.loop-i-init
-loop-i-init c = omega arith
-
-pub loop-i-preserved : goal.loop-i-preserved
-loop-i-preserved c = top_more c.args.self.now.tasks c.args.self.now.pending c.loop-i.i _ c.loop-i.highest c.level.result c.higher-highest.result c.loop-i-test.true (search rules) c.level.ensures c.higher-highest.ensures c.loop-i.invariant
+pub loop-task-preserved : goal.loop-task-preserved
+loop-task-preserved c =
+    top_more c.as_slice-tasks.result.now c.loop-task.task-index c.task-item.result c.loop-task.highest c.level.result c.max-highest.result _ c.loop-task-test.true c.task-item.is c.level.ensures c.max-highest.ensures c.loop-task.invariant
 
 pub returns : goal.returns
-returns c = top_end c.args.self.now.tasks c.args.self.now.pending c.loop-i.i c.loop-i.highest c.loop-i-test.false c.loop-i.invariant
+returns c =
+    top_end c.as_slice-tasks.result.now c.loop-task.task-index c.loop-task.highest _ c.loop-task-test.false c.loop-task.invariant

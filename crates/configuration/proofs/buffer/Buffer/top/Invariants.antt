@@ -1,7 +1,7 @@
-use Rattle.std.proofs.Common.{◌≡◌, max, drop}
-use Rattle.configuration.specs.Meaning.{tasks_of}
+use Rattle.std.proofs.Common.{◌≡◌, max, map, drop}
+use Rattle.configuration.specs.Meaning.{frames_of, tasks_of}
 use Rattle.configuration.specs.Tasks.{top}
 use Rattle.configuration.proofs.buffer.Buffer.top.Given as goal
 
-abbrev pub invariant-loop-i : goal.invariant-loop-i
-invariant-loop-i l = max l.highest (top (drop l.i (tasks_of l.self))) ≡ top (tasks_of l.self)
+abbrev pub invariant-loop-task : goal.invariant-loop-task
+invariant-loop-task l = max l.highest (top (map frames_of (drop l.task-index l.tasks))) ≡ top (tasks_of l.self)
