@@ -10,7 +10,7 @@ use Rattle.grammar.specs.Rules.{Ranged, Inner, KeepsExpr, KeepsPlain, KeepsBlock
 use Rattle.grammar.specs.Results.{Outcome, ok, then, guard, expect, Reads}
 use Rattle.grammar.specs.ReadExpr.{ranged, a_variable, a_number, a_name, an_expr}
 use Rattle.grammar.specs.ReadBlock.{Opening, begins, sets, closes, nothing, opened_by, opening, ended, ended_expr, set_rest, call_rest, post_rest, Blocks, deeper, inner_block, followed, branch_rest, loop_rest, keyed, statement_from, statement_at, statements}
-use Rattle.grammar.proofs.Joining.{never_ok, then_ok, guard_ok, seeing_ok, ok_piece, same_equal, picked, join, expect_sound}
+use Rattle.grammar.proofs.Joining.{then_ok, guard_ok, seeing_ok, ok_piece, same_equal, picked, join, expect_sound}
 use Rattle.grammar.proofs.Telling.{variable_told, ranged_true, a_variable_sound, a_number_sound, a_name_sound}
 use Rattle.grammar.proofs.Expressions.{expr_sound}
 
@@ -37,7 +37,7 @@ opening_told t = opened_told t (key_of t) (variable_of t) (same t (mark Close)) 
 
 -- What is read one further in, where there is a level.
 pub deeper_ok : {A G : Type 0} (n a : ℕ) (f : ℕ → Outcome A) (s : A) (b : ℕ) → deeper n a f ≡ ok s b → ((m : ℕ) → n ≡ suc m → f m ≡ ok s b → G) → G
-deeper_ok zero a f s b e k = never_ok 7 a b s e
+deeper_ok zero a f s b e k = cc
 deeper_ok (suc n) a f s b e k = k n refl e
 
 module _ (r : Reader) (z : Sizes) where
@@ -201,7 +201,7 @@ module _ (r : Reader) (z : Sizes) where
         (λ u c g. set_sound v u (r.next a) c (ranged_true z.globals v q) g) f₁))
     from_sound nest place a b s t closes l m h =
         let p = ok_piece stop s a b h in rw (sym p.0) (p.1, tt)
-    from_sound nest place a b s t nothing l m h = never_ok 3 a b s h
+    from_sound nest place a b s t nothing l m h = cc
 
     at_sound : FairBlocks (statement_at r z rec)
     unfolding statement_at
@@ -212,6 +212,6 @@ module _ (r : Reader) (z : Sizes) where
   -- Statements that are read are spelt there, and keep the rules.
   pub statements_sound : (fuel : ℕ) → FairBlocks (statements r z fuel)
   unfolding statements
-  statements_sound zero nest place a b s e = never_ok 7 a b s e
+  statements_sound zero nest place a b s e = cc
   statements_sound (suc fuel) nest place a b s e =
       at_sound (λ n p c. statements r z fuel n p c) (statements_sound fuel) nest place a b s e

@@ -10,7 +10,7 @@ use Rattle.grammar.specs.Spelling.{spelt_term, spelt_sum, spelt_expr}
 use Rattle.grammar.specs.Rules.{KeepsTerm, KeepsSum, KeepsExpr}
 use Rattle.grammar.specs.Results.{Outcome, ok, then, expect, Reads}
 use Rattle.grammar.specs.ReadExpr.{ranged, Start, with_number, with_variable, with_not, with_left, with_other, start, Inside, shut, opened, operator_or, an_operator, second, a_sum, term_from, term_in, inside, a_term, an_expr}
-use Rattle.grammar.proofs.Joining.{never_ok, then_ok, guard_ok, seeing_ok, ok_piece, same_equal, join, expect_sound}
+use Rattle.grammar.proofs.Joining.{then_ok, guard_ok, seeing_ok, ok_piece, same_equal, join, expect_sound}
 use Rattle.grammar.proofs.Telling.{operator_told, operator_back, ranged_true, Begins, start_told}
 
 -- An operator, or none with nothing taken.
@@ -89,14 +89,14 @@ module _ (r : Reader) (values globals : ℕ) where
       guard_ok (ranged globals v) 4 a (ok (variable v) (r.next a)) t b e
       (λ q h. let p = ok_piece (variable v) t (r.next a) b h in
       rw (sym p.0) ((l ∙ ap token m, p.1), ranged_true globals v q))
-  from_sound shut n fair u with_not t a b l m e = never_ok 7 a b t e
+  from_sound shut n fair u with_not t a b l m e = cc
   from_sound (opened g) zero fair u with_not t a b l m e = absurd fair
   from_sound (opened g) (suc n) fair u with_not t a b l m e =
       then_ok (g (r.next a)) (λ x c. ok (negated x) c) t b e
       (λ x c f h. let p = ok_piece (negated x) t c b h in
       let k = fair x (r.next a) c f in
       rw (sym p.0) ((l ∙ ap token m, rw (sym p.1) k.0), k.1))
-  from_sound shut n fair u with_left t a b l m e = never_ok 7 a b t e
+  from_sound shut n fair u with_left t a b l m e = cc
   from_sound (opened g) zero fair u with_left t a b l m e = absurd fair
   from_sound (opened g) (suc n) fair u with_left t a b l m e =
       then_ok (a_sum r g (r.next a)) (λ s c. then (expect r (mark Right) c) (λ _ x. ok (bracket s) x)) t b e
@@ -104,7 +104,7 @@ module _ (r : Reader) (values globals : ℕ) where
       (λ y x q z. let p = ok_piece (bracket s) t x b z in
       let k = sum_sound r (λ v. KeepsTerm values globals v n) g fair s (r.next a) c f in
       rw (sym p.0) (rw (spelt_bracket s) (l ∙ ap token m, rw (sym p.1) (join r (spelt_sum s) (mark Right ∷ []) (r.next a) c x k.0 (expect_sound r (mark Right) c x y q))), kept_bracket s n k.1)))
-  from_sound d n fair u with_other t a b l m e = never_ok 3 a b t e
+  from_sound d n fair u with_other t a b l m e = cc
 
   in_sound : (d : Inside) (n : ℕ) → FairIn r values globals d n → (t : Term) (a b : ℕ) → term_in r values globals d a ≡ ok t b → Reads r a (spelt_term t) b × KeepsTerm values globals t n
   unfolding term_in

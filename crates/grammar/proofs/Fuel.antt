@@ -8,7 +8,7 @@ use Rattle.grammar.specs.Sources.{Plain, skips, assumes, returns, yields, zields
 use Rattle.grammar.specs.Results.{Outcome, ok, bad, then, guard, on_seen, expect}
 use Rattle.grammar.specs.ReadExpr.{ranged, an_expr}
 use Rattle.grammar.specs.ReadBlock.{Opening, begins, sets, closes, nothing, opening, ended, ended_expr, set_rest, call_rest, post_rest, Blocks, deeper, inner_block, followed, branch_rest, loop_rest, keyed, statement_from, statement_at, statements}
-use Rattle.grammar.proofs.Joining.{never_ok, then_ok, guard_ok, seeing_ok, ok_piece}
+use Rattle.grammar.proofs.Joining.{then_ok, guard_ok, seeing_ok, ok_piece}
 use Rattle.grammar.proofs.Blocks.{deeper_ok}
 
 -- Readings whose parts are the same are the same.
@@ -98,7 +98,7 @@ module _ (r : Reader) (z : Sizes) where
         (λ q f. guard_ok (ltb place 200) 7 a (followed (set_rest r z v (r.next a)) (λ c. rec nest (suc place) c)) s b f
         (λ q₁ f₁. followed_placed (set_rest r z v (r.next a)) nest place b s (ltb-true place 200 q₁) f₁))
     from_placed nest place a b s closes le h = rw (sym (ok_piece stop s a b h).0) (omega arith)
-    from_placed nest place a b s nothing le h = never_ok 3 a b s h
+    from_placed nest place a b s nothing le h = cc
 
     at_placed : Placed (statement_at r z rec)
     unfolding statement_at
@@ -109,7 +109,7 @@ module _ (r : Reader) (z : Sizes) where
   -- Statements that are read take no place past the last.
   pub statements_placed : (fuel : ℕ) → Placed (statements r z fuel)
   unfolding statements
-  statements_placed zero nest place a b s le e = never_ok 7 a b s e
+  statements_placed zero nest place a b s le e = cc
   statements_placed (suc fuel) nest place a b s le e =
       at_placed (λ n p c. statements r z fuel n p c) (statements_placed fuel) nest place a b s le e
 

@@ -1,33 +1,30 @@
 -- What a reading that goes well says of its parts, and tokens one after another.
-use Rattle.std.proofs.Common.{◌≡◌, ℕ, Bool, true, false, cond, List, [], ◌∷◌, ◌++◌, get_or, Some, None, Option, sym, refl, ap, ◌∙◌, arith}
+use Rattle.std.proofs.Common.{◌≡◌, ℕ, Bool, true, false, cond, List, [], ◌∷◌, ◌++◌, get_or, Some, None, Option, sym, refl, ap, ◌∙◌}
+use Rattle.std.specs.List.{find}
 use Rattle.std.proofs.lemmas.Slice.Eq.{bytes_eq-Decides}
 use Rattle.std.proofs.lemmas.Bool.{eqb-true, eq-eqb}
 use Rattle.lexer.specs.Lexemes.{Lexeme, word, number, mark, end, Seen, token, long_row, stranger, Reader}
 use Rattle.lexer.specs.declared.mark.Mark.{Mark}
 use Rattle.lexer.specs.declared.mark.Mark.TheVariants.{Open, Close, Left, Right, Semicolon, Becomes, Plus, Minus, Equal, Less, And, Or, Not, Star, Any}
-use Rattle.grammar.specs.Tokens.{pick, mark_number, same}
+use Rattle.grammar.specs.Tokens.{mark_number, same}
 use Rattle.grammar.specs.Results.{Outcome, ok, bad, then, guard, need, on_seen, seeing, expect, Reads}
-
--- A fault is no piece.
-pub never_ok : {A : Type 0} {G : Type 0} (n a b : ℕ) (x : A) → bad n a ≡ ok x b → G
-never_ok n a b x e = let z : ◌≡◌ {A = ℕ} 0 1 = cc in absurd (omega arith)
 
 pub then_ok : {A B G : Type 0} (p : Outcome A) (f : A → ℕ → Outcome B) (y : B) (c : ℕ) → then p f ≡ ok y c → ((x : A) (b : ℕ) → p ≡ ok x b → f x b ≡ ok y c → G) → G
 then_ok (ok x b) f y c e k = k x b refl e
-then_ok (bad n a) f y c e k = never_ok n a c y e
+then_ok (bad n a) f y c e k = cc
 
 pub guard_ok : {A G : Type 0} (t : Bool) (n a : ℕ) (p : Outcome A) (y : A) (c : ℕ) → guard t n a p ≡ ok y c → (t ≡ true → p ≡ ok y c → G) → G
 guard_ok true n a p y c e k = k refl e
-guard_ok false n a p y c e k = never_ok n a c y e
+guard_ok false n a p y c e k = cc
 
 pub need_ok : {A B G : Type 0} (o : Option A) (a : ℕ) (f : A → Outcome B) (y : B) (c : ℕ) → need o a f ≡ ok y c → ((x : A) → o ≡ Some x → f x ≡ ok y c → G) → G
 need_ok (Some x) a f y c e k = k x refl e
-need_ok None a f y c e k = never_ok 3 a c y e
+need_ok None a f y c e k = cc
 
 on_seen_ok : {A G : Type 0} (s : Seen) (a : ℕ) (f : Lexeme → Outcome A) (y : A) (c : ℕ) → on_seen s a f ≡ ok y c → ((t : Lexeme) → s ≡ token t → f t ≡ ok y c → G) → G
 on_seen_ok (token t) a f y c e k = k t refl e
-on_seen_ok long_row a f y c e k = never_ok 2 a c y e
-on_seen_ok stranger a f y c e k = never_ok 2 a c y e
+on_seen_ok long_row a f y c e k = cc
+on_seen_ok stranger a f y c e k = cc
 
 pub seeing_ok : {A G : Type 0} (r : Reader) (a : ℕ) (f : Lexeme → Outcome A) (y : A) (c : ℕ) → seeing r a f ≡ ok y c → ((t : Lexeme) → r.look a ≡ token t → f t ≡ ok y c → G) → G
 seeing_ok r a f y c e k = on_seen_ok (r.look a) a f y c e k
@@ -57,27 +54,24 @@ mark_back Not = refl
 mark_back Star = refl
 mark_back Any = refl
 
-differ : {G : Type 0} → false ≡ true → G
-differ e = let z : ◌≡◌ {A = ℕ} 0 1 = cc in absurd (omega arith)
-
 -- Tokens that are told to be the same are equal.
 pub same_equal : (t u : Lexeme) → same t u ≡ true → t ≡ u
 same_equal (word u) (word w) e = ap word ((bytes_eq-Decides u w).0 e)
-same_equal (word u) (number w) e = differ e
-same_equal (word u) (mark n) e = differ e
-same_equal (word u) end e = differ e
-same_equal (number u) (word w) e = differ e
+same_equal (word u) (number w) e = cc
+same_equal (word u) (mark n) e = cc
+same_equal (word u) end e = cc
+same_equal (number u) (word w) e = cc
 same_equal (number u) (number w) e = ap number ((bytes_eq-Decides u w).0 e)
-same_equal (number u) (mark n) e = differ e
-same_equal (number u) end e = differ e
-same_equal (mark m) (word w) e = differ e
-same_equal (mark m) (number w) e = differ e
+same_equal (number u) (mark n) e = cc
+same_equal (number u) end e = cc
+same_equal (mark m) (word w) e = cc
+same_equal (mark m) (number w) e = cc
 same_equal (mark m) (mark n) e =
     ap mark (sym (mark_back m) ∙ (ap mark_at (eqb-true (mark_number m) (mark_number n) e) ∙ mark_back n))
-same_equal (mark m) end e = differ e
-same_equal end (word w) e = differ e
-same_equal end (number w) e = differ e
-same_equal end (mark n) e = differ e
+same_equal (mark m) end e = cc
+same_equal end (word w) e = cc
+same_equal end (number w) e = cc
+same_equal end (mark n) e = cc
 same_equal end end e = refl
 
 pub same_self : (t : Lexeme) → same t t ≡ true
@@ -91,9 +85,9 @@ picked_if : {A : Type 0} (p : A → Bool) (x y : A) (b : Bool) (rest : Option A)
 picked_if p x y true rest e on h = let one : x ≡ y = cc in rw (sym one) e
 picked_if p x y false rest e on h = on h
 
-pub picked : {A : Type 0} (p : A → Bool) (xs : List A) (y : A) → pick p xs ≡ Some y → p y ≡ true
-picked p [] y h = let z : ◌≡◌ {A = ℕ} 0 1 = cc in absurd (omega arith)
-picked p (x ∷ xs) y h = picked_if p x y (p x) (pick p xs) refl (picked p xs y) h
+pub picked : {A : Type 0} (p : A → Bool) (xs : List A) (y : A) → find p xs ≡ Some y → p y ≡ true
+picked p [] y h = cc
+picked p (x ∷ xs) y h = picked_if p x y (p x) (find p xs) refl (picked p xs y) h
 
 -- Tokens one after another are met where each part is.
 pub join : (r : Reader) (ts us : List Lexeme) (a b c : ℕ) → Reads r a ts b → Reads r b us c → Reads r a (ts ++ us) c

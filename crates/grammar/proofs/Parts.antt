@@ -1,5 +1,6 @@
 -- The parts of a text are read as they are spelt: sizes, bodies, procedures, mains, values, the goal and bounds.
 use Rattle.std.proofs.Common.{◌≡◌, ℕ, zero, suc, ◌+◌, ◌<◌, ◌≤◌, Bool, true, false, cond, not, ◌&&◌, eqb, ltb, leb, List, [], ◌∷◌, ◌++◌, length, Some, None, codes, Option, sym, refl, ap, ◌∙◌, arith}
+use Rattle.std.specs.List.{list_any}
 use Rattle.std.specs.Str.{bytes_eq}
 use Rattle.std.proofs.lemmas.Slice.Eq.{bytes_eq-Decides}
 use Rattle.std.proofs.lemmas.Bool.{ltb-true, leb-true, eqb-true, and_parts, not-true}
@@ -8,7 +9,7 @@ use Rattle.lexer.specs.declared.mark.Mark.TheVariants.{Open, Close, Any}
 use Rattle.program.specs.declared.kind.Kind.{Kind}
 use Rattle.program.specs.Kinds.{kind_named}
 use Rattle.program.specs.KindLaws.{worded}
-use Rattle.grammar.specs.Tokens.{same, value, digits_of, reserved, among, Limit, of_delay, of_kind, limit_letters, as_limit, limit_of}
+use Rattle.grammar.specs.Tokens.{same, value, digits_of, reserved, Limit, of_delay, of_kind, limit_letters, as_limit, limit_of}
 use Rattle.grammar.specs.Sources.{Block, size, Procedure, Main, Bound, Aim, exactly, anything, Sizes, procedure_places, main_places}
 use Rattle.grammar.specs.Spelling.{braced, spelt_block, spelt_procedures, spelt_mains, spelt_values, spelt_aim, spelt_aims, spelt_bounds}
 use Rattle.grammar.specs.Rules.{KeepsBlock, KeepsProcedures, KeepsMains, KeepsValues, KeepsAim, KeepsAims, KeepsBounds, Within}
@@ -17,14 +18,14 @@ use Rattle.grammar.specs.ReadExpr.{a_number, a_name}
 use Rattle.grammar.specs.ReadBlock.{statements}
 use Rattle.grammar.specs.ReadText.{between, sized, exactly_number, a_body, new_name, some_procedures, some_mains, some_values, an_aim, some_aims, a_limit, some_bounds}
 use Rattle.grammar.proofs.Joining.{then_ok, guard_ok, need_ok, seeing_ok, ok_piece, same_equal, join, expect_sound}
-use Rattle.grammar.proofs.Telling.{none_told, digits_told, a_number_sound, a_name_sound}
+use Rattle.grammar.proofs.Telling.{digits_told, a_number_sound, a_name_sound}
 use Rattle.grammar.proofs.Blocks.{statements_sound}
 
 -- What a bound bounds, told from its token.
 kind_told : (w : List ℕ) (o : Option Kind) (k : Limit) → kind_named w ≡ o → as_limit o ≡ Some k → w ≡ limit_letters k
 kind_told w (Some x) k e h =
     let one : of_kind x ≡ k = cc in (worded w x).0 e ∙ ap limit_letters one
-kind_told w None k e h = none_told k h
+kind_told w None k e h = cc
 
 limit_if : (w : List ℕ) (b : Bool) (k : Limit) → bytes_eq w (codes "delay") ≡ b → cond b (Some of_delay) (as_limit (kind_named w)) ≡ Some k → w ≡ limit_letters k
 limit_if w true k e h =
@@ -34,9 +35,9 @@ limit_if w false k e h = kind_told w (kind_named w) k refl h
 pub limit_told : (t : Lexeme) (k : Limit) → limit_of t ≡ Some k → t ≡ word (limit_letters k)
 unfolding limit_of
 limit_told (word w) k e = ap word (limit_if w (bytes_eq w (codes "delay")) k refl e)
-limit_told (number x) k e = none_told k e
-limit_told (mark m) k e = none_told k e
-limit_told end k e = none_told k e
+limit_told (number x) k e = cc
+limit_told (mark m) k e = cc
+limit_told end k e = cc
 
 module _ (r : Reader) where
   a_limit_sound : (k : Limit) (a b : ℕ) → a_limit r a ≡ ok k b → Reads r a (word (limit_letters k) ∷ []) b
@@ -85,14 +86,14 @@ module _ (r : Reader) where
       let j = join r (spelt_block u) (mark Close ∷ []) c d x i.0 (expect_sound r (mark Close) d x y f₃) in
       rw (sym p.0, sym p.1) (join r (mark Open ∷ []) (spelt_block u ++ (mark Close ∷ [])) a c x (expect_sound r (mark Open) a c o f) j, i.1, ltb-true (place + size u) 200 q)))))
 
-  new_name_sound : (names : List (List ℕ)) (a b : ℕ) (w : List ℕ) → new_name r names a ≡ ok w b → Reads r a (word w ∷ []) b × (reserved w ≡ false) × (among w names ≡ false)
+  new_name_sound : (names : List (List ℕ)) (a b : ℕ) (w : List ℕ) → new_name r names a ≡ ok w b → Reads r a (word w ∷ []) b × (reserved w ≡ false) × (list_any (bytes_eq w) names ≡ false)
   unfolding new_name
   new_name_sound names a b w e =
-      then_ok (a_name r a) (λ u c. guard (not (among u names)) 5 a (ok u c)) w b e
-      (λ u c f h. guard_ok (not (among u names)) 5 a (ok u c) w b h
+      then_ok (a_name r a) (λ u c. guard (not (list_any (bytes_eq u) names)) 5 a (ok u c)) w b e
+      (λ u c f h. guard_ok (not (list_any (bytes_eq u) names)) 5 a (ok u c) w b h
       (λ q g. let p = ok_piece u w c b g in
       let i = a_name_sound r a c u f in
-      rw (sym p.0, sym p.1) (i.0, i.1, not-true (among u names) q)))
+      rw (sym p.0, sym p.1) (i.0, i.1, not-true (list_any (bytes_eq u) names) q)))
 
   -- Procedures, with the rules, the count and the places.
   abbrev Procedures : Sizes → ℕ → List (List ℕ) → ℕ → ℕ → ℕ → List Procedure → Type 0

@@ -1,5 +1,6 @@
 -- The parts of a text that are spelt, and keep the rules, are read.
 use Rattle.std.proofs.Common.{◌≡◌, ℕ, zero, suc, ◌+◌, ◌<◌, ◌≤◌, false, leb, List, [], ◌∷◌, ◌++◌, length, Some, codes, refl, ap, arith}
+use Rattle.std.specs.List.{list_any}
 use Rattle.std.specs.Str.{bytes_eq}
 use Rattle.std.proofs.lemmas.Bool.{lt-ltb, le-leb, eq-eqb, and_from}
 use Rattle.lexer.specs.Lexemes.{Lexeme, word, number, mark, token, Reader}
@@ -8,7 +9,7 @@ use Rattle.program.specs.declared.kind.Kind.{Kind}
 use Rattle.program.specs.declared.kind.Kind.TheVariants.{Skip, Assume, Then, Else, Assign, Do, End, Call, Return, Resume, Post, Dispatch, Yield, Zield}
 use Rattle.program.specs.Kinds.{named}
 use Rattle.program.specs.KindLaws.{worded}
-use Rattle.grammar.specs.Tokens.{same, value, reserved, among, Limit, of_delay, of_kind, limit_letters, limit_of}
+use Rattle.grammar.specs.Tokens.{same, value, reserved, Limit, of_delay, of_kind, limit_letters, limit_of}
 use Rattle.grammar.specs.Sources.{Block, size, Procedure, Main, Bound, Aim, exactly, anything, Sizes, procedure_places, main_places}
 use Rattle.grammar.specs.Spelling.{braced, spelt_block, spelt_procedures, spelt_mains, spelt_values, spelt_aim, spelt_aims, spelt_bounds}
 use Rattle.grammar.specs.Rules.{KeepsBlock, KeepsProcedures, KeepsMains, KeepsValues, KeepsAim, KeepsAims, KeepsBounds, Within}
@@ -59,7 +60,7 @@ module _ (r : Reader) where
   unfolding exactly_number
   exactly_complete n a ds l e = rw (l, eq-eqb (value ds) n e)
 
-  new_name_complete : (names : List (List ℕ)) (a : ℕ) (w : List ℕ) → r.look a ≡ token (word w) → reserved w ≡ false → among w names ≡ false → new_name r names a ≡ ok w (r.next a)
+  new_name_complete : (names : List (List ℕ)) (a : ℕ) (w : List ℕ) → r.look a ≡ token (word w) → reserved w ≡ false → list_any (bytes_eq w) names ≡ false → new_name r names a ≡ ok w (r.next a)
   unfolding new_name
   new_name_complete names a w l e f = rw (a_name_complete r a w l e, f)
 
@@ -76,7 +77,7 @@ module _ (r : Reader) where
     procedures_end t zero names place a l e = rw (l, e)
     procedures_end t (suc room) names place a l e = rw (l, e)
 
-    procedure_more : (p : Procedure) (rest : List Procedure) (room : ℕ) (names : List (List ℕ)) (place a b c : ℕ) → r.look a ≡ token (word (codes "proc")) → r.look (r.next a) ≡ token (word p.name) → Reads r (r.next (r.next a)) (braced (spelt_block p.body)) b → reserved p.name ≡ false → among p.name names ≡ false → KeepsBlock z p.body 7 → place + size p.body < 200 → some_procedures r z room (names ++ (p.name ∷ [])) (suc (place + size p.body)) b ≡ ok rest c → some_procedures r z (suc room) names place a ≡ ok (p ∷ rest) c
+    procedure_more : (p : Procedure) (rest : List Procedure) (room : ℕ) (names : List (List ℕ)) (place a b c : ℕ) → r.look a ≡ token (word (codes "proc")) → r.look (r.next a) ≡ token (word p.name) → Reads r (r.next (r.next a)) (braced (spelt_block p.body)) b → reserved p.name ≡ false → list_any (bytes_eq p.name) names ≡ false → KeepsBlock z p.body 7 → place + size p.body < 200 → some_procedures r z room (names ++ (p.name ∷ [])) (suc (place + size p.body)) b ≡ ok rest c → some_procedures r z (suc room) names place a ≡ ok (p ∷ rest) c
     unfolding some_procedures
     procedure_more p rest room names place a b c l m h e f k lt g =
         rw (l, new_name_complete names (r.next a) p.name m e f, body_complete place (r.next (r.next a)) b p.body h k lt, g)

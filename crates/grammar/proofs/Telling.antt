@@ -45,25 +45,22 @@ operator_back And = refl
 operator_back Or = refl
 
 -- Digits and names.
-pub none_told : {A G : Type 0} (x : A) → None ≡ Some x → G
-none_told x e = let z : ◌≡◌ {A = ℕ} 0 1 = cc in absurd (omega arith)
-
 pub digits_told : (t : Lexeme) (ds : List ℕ) → digits_of t ≡ Some ds → t ≡ number ds
-digits_told (word w) ds e = none_told ds e
+digits_told (word w) ds e = cc
 digits_told (number x) ds e = cc
-digits_told (mark m) ds e = none_told ds e
-digits_told end ds e = none_told ds e
+digits_told (mark m) ds e = cc
+digits_told end ds e = cc
 
 name_if : (w x : List ℕ) (b : Bool) → reserved w ≡ b → cond b None (Some w) ≡ Some x → (w ≡ x) × (reserved x ≡ false)
-name_if w x true e h = none_told x h
+name_if w x true e h = cc
 name_if w x false e h = let one : w ≡ x = cc in (one, rw (sym one) e)
 
 pub name_told : (t : Lexeme) (w : List ℕ) → name_of t ≡ Some w → (t ≡ word w) × (reserved w ≡ false)
 unfolding name_of
 name_told (word x) w e = let k = name_if x w (reserved x) refl e in (ap word k.0, k.1)
-name_told (number x) w e = none_told w e
-name_told (mark m) w e = none_told w e
-name_told end w e = none_told w e
+name_told (number x) w e = cc
+name_told (mark m) w e = cc
+name_told end w e = cc
 
 pub name_back : (w : List ℕ) → reserved w ≡ false → name_of (word w) ≡ Some w
 unfolding name_of

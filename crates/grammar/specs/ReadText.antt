@@ -1,8 +1,10 @@
 -- Reading a whole text from left to right. Assumes nothing.
 use Rattle.std.specs.Prelude.{ℕ, zero, suc, ◌+◌, cond, not, ◌&&◌, List, [], ◌∷◌, ◌++◌, codes, ◌==◌, nat_le, nat_lt}
+use Rattle.std.specs.Str.{bytes_eq}
+use Rattle.std.specs.List.{list_any}
 use Rattle.lexer.specs.Lexemes.{word, mark, end, Reader}
 use Rattle.lexer.specs.declared.mark.Mark.TheVariants.{Open, Close, Any}
-use Rattle.grammar.specs.Tokens.{same, value, digits_of, among, Limit, limit_of}
+use Rattle.grammar.specs.Tokens.{same, value, digits_of, Limit, limit_of}
 use Rattle.grammar.specs.Sources.{Block, size, Procedure, Main, Bound, Aim, exactly, anything, Sizes, sizes_from, procedure_places, Source}
 use Rattle.grammar.specs.Results.{Outcome, ok, then, guard, need, seeing, expect}
 use Rattle.grammar.specs.ReadExpr.{a_number, a_name}
@@ -24,7 +26,7 @@ a_body r z place a = then (expect r (mark Open) a) (λ _ b. then (statements r z
 
 -- A name that none of these is.
 unfoldable pub new_name : Reader → List (List ℕ) → ℕ → Outcome (List ℕ)
-new_name r names a = then (a_name r a) (λ w b. guard (not (among w names)) 5 a (ok w b))
+new_name r names a = then (a_name r a) (λ w b. guard (not (list_any (bytes_eq w) names)) 5 a (ok w b))
 
 -- At most so many procedures, after others of these names, from a place on.
 unfoldable pub some_procedures : Reader → Sizes → ℕ → List (List ℕ) → ℕ → ℕ → Outcome (List Procedure)

@@ -1,8 +1,10 @@
 -- The rules that a source keeps beyond its form: ranges, depths, places, names and counts. Assumes nothing.
 use Rattle.std.specs.Prelude.{◌≡◌, ℕ, zero, suc, ◌+◌, ◌<◌, ◌≤◌, false, List, [], ◌∷◌, ◌++◌, length}
+use Rattle.std.specs.Str.{bytes_eq}
+use Rattle.std.specs.List.{list_any}
 use Rattle.program.specs.declared.variable.Variable.{Variable}
 use Rattle.program.specs.declared.variable.Variable.TheVariants.{Global, Local}
-use Rattle.grammar.specs.Tokens.{value, reserved, among}
+use Rattle.grammar.specs.Tokens.{value, reserved}
 use Rattle.grammar.specs.Sources.{Term, numeral, variable, negated, single, double, Sum, one, two, Expr, star, sum, Plain, skips, assigns, assumes, calls, returns, posts, yields, zields, Block, stop, plain, branch, loop, Procedure, Main, Bound, Aim, exactly, anything, Sizes, Source, sizes_of, procedure_places, main_places}
 
 -- A variable is l or one of the globals.
@@ -52,7 +54,7 @@ KeepsBlock z (loop e s rest) n = KeepsExpr z.values z.globals e × Inner n (λ m
 -- The rules of procedures after others of these names: names that are free and new, and bodies within eight blocks.
 abbrev pub KeepsProcedures : Sizes → List (List ℕ) → List Procedure → Type 0
 KeepsProcedures z names [] = Unit {0}
-KeepsProcedures z names (p ∷ ps) = (reserved p.name ≡ false) × (among p.name names ≡ false) × KeepsBlock z p.body 7 × KeepsProcedures z (names ++ (p.name ∷ [])) ps
+KeepsProcedures z names (p ∷ ps) = (reserved p.name ≡ false) × (list_any (bytes_eq p.name) names ≡ false) × KeepsBlock z p.body 7 × KeepsProcedures z (names ++ (p.name ∷ [])) ps
 
 -- The rules of the mains from number n on: they come in turn.
 abbrev pub KeepsMains : Sizes → ℕ → List Main → Type 0

@@ -1,5 +1,5 @@
 -- The tokens that a source is spelt by. Assumes nothing.
-use Rattle.std.specs.Prelude.{ℕ, List, [], ◌∷◌, ◌++◌, codes}
+use Rattle.std.specs.Prelude.{ℕ, List, [], ◌∷◌, ◌++◌, map, codes}
 use Rattle.lexer.specs.Lexemes.{Lexeme, word, number, mark}
 use Rattle.lexer.specs.declared.mark.Mark.TheVariants.{Open, Close, Left, Right, Semicolon, Becomes, Not, Star, Any}
 use Rattle.grammar.specs.Tokens.{letters, sign, limit_letters}
@@ -53,16 +53,14 @@ spelt_mains [] = []
 spelt_mains (m ∷ ms) = word (codes "main") ∷ number m.number ∷ (braced (spelt_block m.body) ++ spelt_mains ms)
 
 abbrev pub spelt_values : List (List ℕ) → List Lexeme
-spelt_values [] = []
-spelt_values (ds ∷ rest) = number ds ∷ spelt_values rest
+spelt_values xs = map number xs
 
 abbrev pub spelt_aim : Aim → Lexeme
 spelt_aim (exactly ds) = number ds
 spelt_aim anything = mark Any
 
 abbrev pub spelt_aims : List Aim → List Lexeme
-spelt_aims [] = []
-spelt_aims (x ∷ rest) = spelt_aim x ∷ spelt_aims rest
+spelt_aims xs = map spelt_aim xs
 
 abbrev pub spelt_bounds : List Bound → List Lexeme
 spelt_bounds [] = []

@@ -1,5 +1,6 @@
 -- Which tokens are which: sameness, the words of the grammar, and what a token can stand for. Assumes nothing.
-use Rattle.std.specs.Prelude.{ℕ, ◌+◌, ◌-◌, ◌*◌, Bool, true, false, cond, ◌||◌, List, [], ◌∷◌, ◌++◌, map, Some, None, codes, Option, ◌==◌}
+use Rattle.std.specs.Prelude.{ℕ, ◌+◌, ◌-◌, ◌*◌, Bool, true, false, cond, List, [], ◌∷◌, ◌++◌, map, Some, None, codes, Option, ◌==◌}
+use Rattle.std.specs.List.{find, list_any}
 use Rattle.std.specs.Str.{bytes_eq}
 use Rattle.lexer.specs.Lexemes.{Lexeme, word, number, mark, end}
 use Rattle.lexer.specs.declared.mark.Mark.{Mark}
@@ -10,11 +11,6 @@ use Rattle.program.specs.declared.operator.Operator.{Operator}
 use Rattle.program.specs.declared.operator.Operator.TheVariants as op
 use Rattle.program.specs.declared.kind.Kind.{Kind}
 use Rattle.program.specs.Kinds.{named, kinds, kind_named}
-
--- The first of some that passes a test.
-abbrev pub pick : {A : Type 0} → (A → Bool) → List A → Option A
-pick p [] = None
-pick p (x ∷ xs) = cond (p x) (Some x) (pick p xs)
 
 -- Marks by number, and whether two tokens are the same.
 abbrev pub mark_number : Mark → ℕ
@@ -75,7 +71,7 @@ abbrev pub variables : List Variable
 variables = Local ∷ Global 0 ∷ Global 1 ∷ Global 2 ∷ Global 3 ∷ Global 4 ∷ Global 5 ∷ Global 6 ∷ Global 7 ∷ []
 
 unfoldable pub variable_of : Lexeme → Option Variable
-variable_of t = pick (λ v. same t (word (letters v))) variables
+variable_of t = find (λ v. same t (word (letters v))) variables
 
 -- What joins two terms.
 abbrev pub sign : Operator → Mark
@@ -90,7 +86,7 @@ abbrev pub operators : List Operator
 operators = op.Plus ∷ op.Minus ∷ op.Equal ∷ op.Less ∷ op.And ∷ op.Or ∷ []
 
 unfoldable pub operator_of : Lexeme → Option Operator
-operator_of t = pick (λ o. same t (mark (sign o))) operators
+operator_of t = find (λ o. same t (mark (sign o))) operators
 
 -- The words that begin a statement.
 pub data Key : Type 0 where
@@ -119,19 +115,14 @@ abbrev pub keys : List Key
 keys = on_skip ∷ on_assume ∷ on_if ∷ on_while ∷ on_call ∷ on_return ∷ on_post ∷ on_yield ∷ on_zield ∷ []
 
 unfoldable pub key_of : Lexeme → Option Key
-key_of t = pick (λ k. same t (word (key_letters k))) keys
+key_of t = find (λ k. same t (word (key_letters k))) keys
 
 -- Words that name no procedure: those of the grammar, the kinds' names and the variables.
 abbrev pub grammar_words : List (List ℕ)
 grammar_words = codes "values" ∷ codes "globals" ∷ codes "buffers" ∷ codes "levels" ∷ codes "proc" ∷ codes "main" ∷ codes "from" ∷ codes "goal" ∷ codes "bound" ∷ codes "skip" ∷ codes "assume" ∷ codes "if" ∷ codes "else" ∷ codes "while" ∷ codes "call" ∷ codes "return" ∷ codes "post" ∷ codes "yield" ∷ codes "zield" ∷ codes "delay" ∷ []
 
--- Whether a word is among some.
-abbrev pub among : List ℕ → List (List ℕ) → Bool
-among w [] = false
-among w (u ∷ us) = bytes_eq w u || among w us
-
 unfoldable pub reserved : List ℕ → Bool
-reserved w = among w (grammar_words ++ (map named kinds ++ map letters variables))
+reserved w = list_any (bytes_eq w) (grammar_words ++ (map named kinds ++ map letters variables))
 
 unfoldable pub name_of : Lexeme → Option (List ℕ)
 name_of (word w) = cond (reserved w) None (Some w)

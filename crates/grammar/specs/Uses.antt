@@ -1,7 +1,8 @@
 -- The names in a source, in the order of the text, with the numbers of their tokens. Assumes nothing.
-use Rattle.std.specs.Prelude.{ℕ, zero, suc, ◌+◌, Bool, true, false, cond, not, List, [], ◌∷◌, ◌++◌, length, Some, None, Option}
+use Rattle.std.specs.Prelude.{ℕ, zero, suc, ◌+◌, Bool, true, false, cond, not, List, [], ◌∷◌, ◌++◌, map, length, Some, None, Option}
+use Rattle.std.specs.Str.{bytes_eq}
+use Rattle.std.specs.List.{filter, find, list_any}
 use Rattle.lexer.specs.Lexemes.{Reader}
-use Rattle.grammar.specs.Tokens.{pick, among}
 use Rattle.grammar.specs.Sources.{Plain, skips, assigns, assumes, calls, returns, posts, yields, zields, Block, stop, plain, branch, loop, Procedure, Main, Source}
 use Rattle.grammar.specs.Spelling.{spelt_expr, spelt_plain, spelt_block, spelt_procedures}
 
@@ -46,12 +47,11 @@ uses s = uses_procedures 8 s.procedures ++ uses_mains (8 + length (spelt_procedu
 
 -- The names that are declared.
 abbrev pub names_of : List Procedure → List (List ℕ)
-names_of [] = []
-names_of (p ∷ ps) = p.name ∷ names_of ps
+names_of ps = map (λ p. p.name) ps
 
 -- The first use of a name that is not declared.
 unfoldable pub undeclared : Source → Option Use
-undeclared s = pick (λ u. not (among u.name (names_of s.procedures))) (uses s)
+undeclared s = find (λ u. not (list_any (bytes_eq u.name) (names_of s.procedures))) (uses s)
 
 -- The names that are posted, and that are called, among some uses.
 abbrev pub is_posted : Manner → Bool
@@ -59,16 +59,14 @@ is_posted posted = true
 is_posted called = false
 
 abbrev pub names_posted : List Use → List (List ℕ)
-names_posted [] = []
-names_posted (u ∷ us) = cond (is_posted u.manner) (u.name ∷ names_posted us) (names_posted us)
+names_posted us = map (λ u. u.name) (filter (λ u. is_posted u.manner) us)
 
 abbrev pub names_called : List Use → List (List ℕ)
-names_called [] = []
-names_called (u ∷ us) = cond (is_posted u.manner) (names_called us) (u.name ∷ names_called us)
+names_called us = map (λ u. u.name) (filter (λ u. not (is_posted u.manner)) us)
 
 -- The first use, after those before, of a name that one before uses in the other manner.
 abbrev pub shows_both : List Use → Use → Bool
-shows_both before u = cond (is_posted u.manner) (among u.name (names_called before)) (among u.name (names_posted before))
+shows_both before u = cond (is_posted u.manner) (list_any (bytes_eq u.name) (names_called before)) (list_any (bytes_eq u.name) (names_posted before))
 
 abbrev pub both_from : List Use → List Use → Option Use
 both_from before [] = None

@@ -1,5 +1,4 @@
 pub mod Begins
-pub mod Entries
 pub mod Law
 pub mod Leading
 pub mod MarkFronts

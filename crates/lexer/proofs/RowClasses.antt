@@ -1,6 +1,7 @@
 -- A byte's class tells which rows it goes on with. Assumes nothing.
-use Rattle.std.proofs.Common.{◌≡◌, ℕ, ◌≤◌, Bool, true, false, cond, ◌||◌, eqb, leb, List, [], ◌∷◌, get_or, sym, refl, ap, ◌∙◌, ⊎_elim, arith}
-use Rattle.std.proofs.lemmas.Bool.{and_parts, or_cases, leb-true, eqb-true, cases_Bool, or_left, or_right, or_from, both_ways}
+use Rattle.std.proofs.Common.{◌≡◌, ℕ, Bool, true, false, cond, eqb, List, [], ◌∷◌, get_or, sym, refl, ap, ◌∙◌, ⊎_elim, arith}
+use Rattle.std.proofs.lemmas.Bool.{or_cases, cases_Bool, or_left, or_right, or_from, both_ways}
+use Rattle.std.proofs.lemmas.Bool.Decides.{nat_tests}
 use Rattle.lexer.specs.declared.class.Class.{Class}
 use Rattle.lexer.specs.declared.class.Class.TheVariants.{Letter, Digit, Blank, Begins}
 use Rattle.lexer.specs.declared.mark.Mark.{Mark}
@@ -10,32 +11,17 @@ use Rattle.lexer.specs.Marks.{spelling, marks}
 use Rattle.lexer.specs.Classes.{letter, digit, blank, begun, class}
 use Rattle.lexer.specs.Rows.{takes, in_row}
 
-letter_bounds : (b : ℕ) → letter b ≡ true → (97 ≤ b) × (b ≤ 122)
-letter_bounds b e = let p = and_parts (leb 97 b) (leb b 122) e in (leb-true 97 b p.0, leb-true b 122 p.1)
-
-digit_bounds : (b : ℕ) → digit b ≡ true → (48 ≤ b) × (b ≤ 57)
-digit_bounds b e = let p = and_parts (leb 48 b) (leb b 57) e in (leb-true 48 b p.0, leb-true b 57 p.1)
-
-blank_bound : (b : ℕ) → blank b ≡ true → b ≤ 32
-blank_bound b e =
-    ⊎_elim (λ h. omega (arith, eqb-true b 32 h))
-    (λ e₁. ⊎_elim (λ h. omega (arith, eqb-true b 9 h))
-    (λ e₂. ⊎_elim (λ h. omega (arith, eqb-true b 10 h)) (λ h. omega (arith, eqb-true b 13 h)) (or_cases (eqb b 10) (eqb b 13) e₂))
-    (or_cases (eqb b 9) (eqb b 10 || eqb b 13) e₁))
-    (or_cases (eqb b 32) (eqb b 9 || (eqb b 10 || eqb b 13)) e)
-
-false_since : (x : Bool) → (x ≡ true → ⊥) → x ≡ false
-false_since true h = absurd (h refl)
-false_since false h = refl
-
 pub letter_no_digit : (b : ℕ) → letter b ≡ true → digit b ≡ false
-letter_no_digit b e = false_since (digit b) (λ f. omega (arith, (letter_bounds b e).0, (digit_bounds b f).1))
+letter_no_digit b e = grind (arith, nat_tests)
 
 pub letter_no_blank : (b : ℕ) → letter b ≡ true → blank b ≡ false
-letter_no_blank b e = false_since (blank b) (λ f. omega (arith, (letter_bounds b e).0, blank_bound b f))
+letter_no_blank b e = grind (arith, nat_tests)
 
 pub digit_no_blank : (b : ℕ) → digit b ≡ true → blank b ≡ false
-digit_no_blank b e = false_since (blank b) (λ f. omega (arith, (digit_bounds b e).0, blank_bound b f))
+digit_no_blank b e = grind (arith, nat_tests)
+
+pub digit_no_letter : (b : ℕ) → digit b ≡ true → letter b ≡ false
+digit_no_letter b e = grind (arith, nat_tests)
 
 begun_one : (r : Row) (m : Mark) (c : Class) (t : Bool) → takes r c ≡ false → takes r (cond t (Begins m) c) ≡ false
 begun_one Word m c true h = refl
@@ -115,6 +101,3 @@ digit_since b e = sym (takes_class Number b) ∙ ap (takes Number) e
 pub no_blank_since : (b : ℕ) (m : Mark) → class b ≡ Begins m → blank b ≡ false
 unfolding in_row
 no_blank_since b m e = sym (takes_class Blanks b) ∙ ap (takes Blanks) e
-
-pub digit_no_letter : (b : ℕ) → digit b ≡ true → letter b ≡ false
-digit_no_letter b e = false_since (letter b) (λ f. omega (arith, (digit_bounds b e).1, (letter_bounds b f).0))

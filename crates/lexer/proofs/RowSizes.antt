@@ -1,21 +1,12 @@
 -- How a row's size grows, byte after byte. Assumes nothing.
-use Rattle.std.proofs.Common.{◌≡◌, ℕ, ◌+◌, ◌<◌, ◌≤◌, true, false, List, length, get_or, drop, sym, refl, ◌∙◌}
-use Rattle.std.proofs.lemmas.List.Sums.{prefix_len-drop_yes, prefix_len-drop_no, prefix_len-drop_all, prefix_len-le-length}
+use Rattle.std.proofs.Common.{◌≡◌, ℕ, ◌≤◌, List, length, drop, refl}
+use Rattle.std.proofs.lemmas.List.Sums.{prefix_len-drop_all, prefix_len-le-length}
 use Rattle.lexer.specs.declared.row.Row.{Row}
 use Rattle.std.specs.List.{prefix_len}
 use Rattle.lexer.specs.declared.row.Row.TheVariants.{Word, Number, Blanks}
 use Rattle.lexer.specs.Bytes.{letter_or_digit}
-use Rattle.lexer.specs.Classes.{class, digit, blank}
-use Rattle.lexer.specs.Rows.{takes, in_row, row_size}
-use Rattle.lexer.proofs.RowClasses.{takes_class}
-
-pub row_more : (r : Row) (t : List ℕ) (i : ℕ) → i < length t → takes r (class (get_or t i 0)) ≡ true → row_size r (drop i t) ≡ 1 + row_size r (drop (i + 1) t)
-unfolding row_size
-row_more r t i h e = prefix_len-drop_yes (in_row r) t i 0 h (sym (takes_class r (get_or t i 0)) ∙ e)
-
-pub row_stops : (r : Row) (t : List ℕ) (i : ℕ) → i < length t → takes r (class (get_or t i 0)) ≡ false → row_size r (drop i t) ≡ 0
-unfolding row_size
-row_stops r t i h e = prefix_len-drop_no (in_row r) t i 0 h (sym (takes_class r (get_or t i 0)) ∙ e)
+use Rattle.lexer.specs.Classes.{digit, blank}
+use Rattle.lexer.specs.Rows.{in_row, row_size}
 
 pub row_ends : (r : Row) (t : List ℕ) (i : ℕ) → length t ≤ i → row_size r (drop i t) ≡ 0
 unfolding row_size

@@ -1,7 +1,7 @@
 -- What stands at the front of a text, and how far it reaches. Assumes nothing.
-use Rattle.std.proofs.Common.{◌≡◌, ℕ, ◌+◌, ◌≤◌, Bool, true, false, cond, eqb, leb, List, [], ◌∷◌, length, take, drop, Ok, sym, refl, ap, ◌∙◌, add-zero, arith}
-use Rattle.std.proofs.lemmas.List.{drop-drop, length-take-le, length-take}
-use Rattle.std.proofs.lemmas.Bool.{and_parts}
+use Rattle.std.proofs.Common.{◌≡◌, ℕ, ◌+◌, ◌≤◌, Bool, true, false, cond, leb, nat_eq, List, [], ◌∷◌, length, take, drop, Ok, sym, refl, ap, ◌∙◌, add-zero, arith}
+use Rattle.std.proofs.lemmas.List.{drop-drop, length-take-le}
+use Rattle.std.specs.List.{starts_with}
 use Rattle.lexer.specs.declared.class.Class.{Class}
 use Rattle.lexer.specs.declared.class.Class.TheVariants.{Letter, Digit, Blank, Begins, Other}
 use Rattle.lexer.specs.declared.row.Row.TheVariants.{Blanks}
@@ -13,27 +13,23 @@ use Rattle.lexer.specs.Lexemes.{Lexeme, Seen}
 use Rattle.lexer.specs.Lexemes.Lexeme.{word, number, mark, end}
 use Rattle.lexer.specs.Lexemes.Seen.{token, long_row, stranger}
 use Rattle.lexer.specs.Marks.{spelling}
-use Rattle.lexer.specs.Reading.{fronts, seen_as, size_as, seen, size, stride, reader_of}
+use Rattle.lexer.specs.Reading.{seen_as, size_as, seen, size, stride, reader_of}
 use Rattle.lexer.specs.Rows.{row_size}
-use Rattle.lexer.specs.Tokens.{part_of, Told_front, moved}
+use Rattle.lexer.specs.Tokens.{part_of, Tells, moved}
+use Rattle.lexer.proofs.Begins.{starts_within}
 use Rattle.lexer.proofs.RowSizes.{row_within, row_ends}
-
-pub fronts_within : (f t : List ℕ) → fronts f t ≡ true → length f ≤ length t
-fronts_within [] t e = omega arith
-fronts_within (b ∷ bs) [] e = let z : ◌≡◌ {A = ℕ} 0 1 = cc in absurd (omega arith)
-fronts_within (b ∷ bs) (c ∷ t) e = let k = fronts_within bs t (and_parts (eqb b c) (fronts bs t) e).1 in omega arith
 
 -- A row, or a mark, that is a token lies within the text.
 mark_within : (b : Bool) (l k : Lexeme) (m n : ℕ) → (b ≡ true → m ≤ n) → cond b (token k) stranger ≡ token l → m ≤ n
 mark_within true l k m n h e = h refl
-mark_within false l k m n h e = let z : ◌≡◌ {A = ℕ} 0 1 = cc in absurd (omega arith)
+mark_within false l k m n h e = cc
 
 size_as_within : (c : Class) (t : List ℕ) (l : Lexeme) → seen_as c t ≡ token l → size_as c t ≤ length t
 size_as_within Letter t l e = row_within Word-row t
 size_as_within Digit t l e = row_within Number-row t
-size_as_within Blank t l e = let z : ◌≡◌ {A = ℕ} 0 1 = cc in absurd (omega arith)
-size_as_within (Begins m) t l e = mark_within (fronts (spelling m) t) l (mark m) (length (spelling m)) (length t) (fronts_within (spelling m) t) e
-size_as_within Other t l e = let z : ◌≡◌ {A = ℕ} 0 1 = cc in absurd (omega arith)
+size_as_within Blank t l e = cc
+size_as_within (Begins m) t l e = mark_within (starts_with nat_eq t (spelling m)) l (mark m) (length (spelling m)) (length t) (starts_within (spelling m) t) e
+size_as_within Other t l e = cc
 
 pub size_within : (t : List ℕ) (l : Lexeme) → seen t ≡ token l → size t ≤ length t
 size_within [] l e = omega arith
@@ -45,19 +41,15 @@ cond_no_end true k s h i e = h (cc)
 cond_no_end false k s h i e = i e
 
 as_no_end : (c : Class) (t : List ℕ) → seen_as c t ≡ token end → ⊥
-as_no_end Letter t e = cond_no_end (leb (row_size Word-row t) 12) (word (take (row_size Word-row t) t)) long_row (λ h. let z : ◌≡◌ {A = ℕ} 0 1 = cc in omega arith) (λ h. let z : ◌≡◌ {A = ℕ} 0 1 = cc in omega arith) e
-as_no_end Digit t e = cond_no_end (leb (row_size Number-row t) 3) (number (take (row_size Number-row t) t)) long_row (λ h. let z : ◌≡◌ {A = ℕ} 0 1 = cc in omega arith) (λ h. let z : ◌≡◌ {A = ℕ} 0 1 = cc in omega arith) e
-as_no_end Blank t e = let z : ◌≡◌ {A = ℕ} 0 1 = cc in omega arith
-as_no_end (Begins m) t e = cond_no_end (fronts (spelling m) t) (mark m) stranger (λ h. let z : ◌≡◌ {A = ℕ} 0 1 = cc in omega arith) (λ h. let z : ◌≡◌ {A = ℕ} 0 1 = cc in omega arith) e
-as_no_end Other t e = let z : ◌≡◌ {A = ℕ} 0 1 = cc in omega arith
+as_no_end Letter t e = cond_no_end (leb (row_size Word-row t) 12) (word (take (row_size Word-row t) t)) long_row (λ h. cc) (λ h. cc) e
+as_no_end Digit t e = cond_no_end (leb (row_size Number-row t) 3) (number (take (row_size Number-row t) t)) long_row (λ h. cc) (λ h. cc) e
+as_no_end Blank t e = cc
+as_no_end (Begins m) t e = cond_no_end (starts_with nat_eq t (spelling m)) (mark m) stranger (λ h. cc) (λ h. cc) e
+as_no_end Other t e = cc
 
 pub end_empty : (t : List ℕ) → seen t ≡ token end → t ≡ []
 end_empty [] e = refl
 end_empty (b ∷ bs) e = absurd (as_no_end (class b) (b ∷ bs) e)
-
--- The part that a token holds lies within the rest.
-pub part_within : (p q t : List ℕ) (n : ℕ) → p ≡ q → q ≡ take n t → length p ≤ length t
-part_within p q t n d e = omega (arith, ap length d, ap length e, length-take n t)
 
 -- How far behind such a token the next begins.
 pub stride_is : (t : List ℕ) (l : Lexeme) → seen t ≡ token l → (l ≡ end → ⊥) → stride t ≡ size t + row_size Blanks (drop (size t) t)
@@ -77,10 +69,10 @@ behind text o l p e ne q =
     let same : drop (length p) (drop o text) ≡ drop (o + length p) text = drop-drop (length p) o text in
     at_rest o (drop o text) l (length p) (drop (o + length p) text) e ne long same
 
-pub moves : (text : List ℕ) (o : ℕ) (t : Token) → Told_front (drop o text) o (Ok t) → o + length (part_of t) + row_size Blanks (drop (o + length (part_of t)) text) ≡ moved (reader_of text) o (Ok t)
-moves text o (Word p a) w = behind text o (word p.now) p.now (sym w.what) (λ h. let z : ◌≡◌ {A = ℕ} 0 1 = cc in omega arith) w.part
-moves text o (Number p a) w = behind text o (number p.now) p.now (sym w.what) (λ h. let z : ◌≡◌ {A = ℕ} 0 1 = cc in omega arith) w.part
-moves text o (Mark m p a) w = behind text o (mark m) p.now (sym w.what) (λ h. let z : ◌≡◌ {A = ℕ} 0 1 = cc in omega arith) w.part
+pub moves : (text : List ℕ) (o : ℕ) (t : Token) → Tells text o (Ok t) → o + length (part_of t) + row_size Blanks (drop (o + length (part_of t)) text) ≡ moved (reader_of text) o (Ok t)
+moves text o (Word p a) w = behind text o (word p.now) p.now (sym w.what) (λ h. cc) w.part
+moves text o (Number p a) w = behind text o (number p.now) p.now (sym w.what) (λ h. cc) w.part
+moves text o (Mark m p a) w = behind text o (mark m) p.now (sym w.what) (λ h. cc) w.part
 moves text o (End a) w =
     let none : drop (o + 0) text ≡ [] = ap (λ (i : ℕ). drop i text) (add-zero o) ∙ end_empty (drop o text) (sym w.what) in
     let blanks : row_size Blanks (drop (o + 0) text) ≡ 0 = ap (row_size Blanks) none ∙ row_ends Blanks [] 0 (omega arith) in

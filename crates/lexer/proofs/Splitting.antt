@@ -1,8 +1,9 @@
 -- What is read as tokens is written as these tokens. Assumes nothing.
-use Rattle.std.proofs.Common.{◌≡◌, ℕ, suc, ◌≤◌, Bool, true, false, cond, leb, List, [], ◌∷◌, ◌++◌, length, take, drop, sym, refl, ap, ◌∙◌, subst, arith, take-append-drop, length-take}
+use Rattle.std.proofs.Common.{◌≡◌, ℕ, suc, ◌≤◌, Bool, true, false, cond, leb, nat_eq, List, [], ◌∷◌, ◌++◌, length, take, drop, sym, refl, ap, ◌∙◌, subst, arith, take-append-drop, length-take}
 use Rattle.std.specs.List.{prefix_len}
 use Rattle.std.proofs.lemmas.List.{drop-drop}
 use Rattle.std.proofs.lemmas.Bool.{leb-true, or_left}
+use Rattle.std.specs.List.{starts_with}
 use Rattle.lexer.specs.declared.class.Class.{Class}
 use Rattle.lexer.specs.declared.class.Class.TheVariants.{Letter, Digit, Blank, Begins, Other}
 use Rattle.lexer.specs.declared.row.Row.TheVariants.{Word, Number, Blanks}
@@ -12,9 +13,9 @@ use Rattle.lexer.specs.Lexemes.{Lexeme, Seen}
 use Rattle.lexer.specs.Lexemes.Lexeme.{word, number, mark, end}
 use Rattle.lexer.specs.Lexemes.Seen.{token, long_row, stranger}
 use Rattle.lexer.specs.Marks.{spelling}
-use Rattle.lexer.specs.Reading.{fronts, seen_as, size_as, seen, size, stride}
+use Rattle.lexer.specs.Reading.{seen_as, size_as, seen, size, stride}
 use Rattle.lexer.specs.Rows.{row_size}
-use Rattle.lexer.proofs.Begins.{fronts_split}
+use Rattle.lexer.proofs.Begins.{starts_split}
 use Rattle.lexer.proofs.Leading.{leading_yes, front_all, after_stops}
 use Rattle.lexer.proofs.RowClasses.{letter_since, digit_since}
 use Rattle.lexer.proofs.RowSizes.{word_size, number_size, blanks_size}
@@ -54,27 +55,21 @@ number_split b bs e h =
       apart = subst (λ (i : ℕ). Stops digit (drop i (b ∷ bs))) (sym (number_size (b ∷ bs))) (after_stops digit (b ∷ bs));
     }
 
-no_long : (l : Lexeme) → long_row ≡ token l → ⊥
-no_long l e = let z : ◌≡◌ {A = ℕ} 0 1 = cc in omega arith
-
-no_stranger : (l : Lexeme) → stranger ≡ token l → ⊥
-no_stranger l e = let z : ◌≡◌ {A = ℕ} 0 1 = cc in omega arith
-
 split_as : (c : Class) (b : ℕ) (bs : List ℕ) (l : Lexeme) → class b ≡ c → seen_as c (b ∷ bs) ≡ token l → Split l (b ∷ bs) (size_as c (b ∷ bs))
 split_as Letter b bs l k e =
     let n : ℕ = row_size Word (b ∷ bs) in
-    let got = chosen (leb n 12) (word (take n (b ∷ bs))) l long_row (no_long l) e in
+    let got = chosen (leb n 12) (word (take n (b ∷ bs))) l long_row (λ h. cc) e in
     subst (λ (m : Lexeme). Split m (b ∷ bs) n) got.1 (word_split b bs (letter_since b k) (leb-true n 12 got.0))
 split_as Digit b bs l k e =
     let n : ℕ = row_size Number (b ∷ bs) in
-    let got = chosen (leb n 3) (number (take n (b ∷ bs))) l long_row (no_long l) e in
+    let got = chosen (leb n 3) (number (take n (b ∷ bs))) l long_row (λ h. cc) e in
     subst (λ (m : Lexeme). Split m (b ∷ bs) n) got.1 (number_split b bs (digit_since b k) (leb-true n 3 got.0))
-split_as Blank b bs l k e = absurd (no_stranger l e)
+split_as Blank b bs l k e = cc
 split_as (Begins m) b bs l k e =
-    let got = chosen (fronts (spelling m) (b ∷ bs)) (mark m) l stranger (no_stranger l) e in
+    let got = chosen (starts_with nat_eq (b ∷ bs) (spelling m)) (mark m) l stranger (λ h. cc) e in
     subst (λ (j : Lexeme). Split j (b ∷ bs) (length (spelling m))) got.1
-    (record { bytes = fronts_split (spelling m) (b ∷ bs) got.0; proper = tt; apart = tt })
-split_as Other b bs l k e = absurd (no_stranger l e)
+    (record { bytes = starts_split (spelling m) (b ∷ bs) got.0; proper = tt; apart = tt })
+split_as Other b bs l k e = cc
 
 pub split : (t : List ℕ) (l : Lexeme) → seen t ≡ token l → (l ≡ end → ⊥) → Split l t (size t)
 split [] l e n = absurd (n (cc))

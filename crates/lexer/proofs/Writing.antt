@@ -1,7 +1,8 @@
 -- What is written as tokens is read as these tokens. Assumes nothing.
-use Rattle.std.proofs.Common.{◌≡◌, ℕ, ◌≤◌, true, leb, List, [], ◌∷◌, ◌++◌, length, take, drop, sym, refl, ap, ◌∙◌, subst, arith}
+use Rattle.std.proofs.Common.{◌≡◌, ℕ, ◌≤◌, true, leb, nat_eq, List, [], ◌∷◌, ◌++◌, length, take, drop, sym, refl, ap, ◌∙◌, subst, arith}
 use Rattle.std.proofs.lemmas.List.{take_at, drop_at, drop-drop}
 use Rattle.std.proofs.lemmas.Bool.{cond-true, le-leb, or_left}
+use Rattle.std.specs.List.{starts_with}
 use Rattle.lexer.specs.declared.class.Class.{Class}
 use Rattle.lexer.specs.declared.class.Class.TheVariants.{Letter, Digit}
 use Rattle.lexer.specs.declared.mark.Mark.{Mark}
@@ -12,9 +13,9 @@ use Rattle.lexer.specs.Lexemes.{Lexeme}
 use Rattle.lexer.specs.Lexemes.Lexeme.{word, number, mark, end}
 use Rattle.lexer.specs.Lexemes.Seen.{token, long_row, stranger}
 use Rattle.lexer.specs.Marks.{spelling}
-use Rattle.lexer.specs.Reading.{fronts, row_seen, seen_as, size_as, seen, size, stride}
+use Rattle.lexer.specs.Reading.{row_seen, seen_as, size_as, seen, size, stride}
 use Rattle.lexer.specs.Rows.{row_size}
-use Rattle.lexer.proofs.Begins.{fronts_joined}
+use Rattle.lexer.proofs.Begins.{starts_joined}
 use Rattle.lexer.proofs.Leading.{leading_joined}
 use Rattle.lexer.proofs.MarkFronts.{begins}
 use Rattle.lexer.proofs.RowClasses.{of_letter, of_digit, letter_no_blank, digit_no_blank, digit_no_letter, no_blank_since}
@@ -57,10 +58,10 @@ mark_stands : (m : Mark) (u : List ℕ) → Stands (mark m) (spelling m ++ u)
 mark_stands m u =
     let g = begins m in
     let t : List ℕ = g.byte ∷ (g.rest ++ u) in
-    let whole : fronts (spelling m) t ≡ true = ap (λ (f : List ℕ). fronts f t) g.is ∙ fronts_joined (g.byte ∷ g.rest) u in
+    let whole : starts_with nat_eq t (spelling m) ≡ true = ap (λ (f : List ℕ). starts_with nat_eq t f) g.is ∙ starts_joined (g.byte ∷ g.rest) u in
     subst (λ (f : List ℕ). Stands (mark m) (f ++ u)) (sym g.is)
     (record {
-      what = ap (λ (k : Class). seen_as k t) g.as_class ∙ cond-true (fronts (spelling m) t) (token (mark m)) stranger whole;
+      what = ap (λ (k : Class). seen_as k t) g.as_class ∙ cond-true (starts_with nat_eq t (spelling m)) (token (mark m)) stranger whole;
       long = ap (λ (k : Class). size_as k t) g.as_class;
     })
 

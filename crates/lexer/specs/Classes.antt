@@ -1,5 +1,5 @@
 -- The class of a byte. Assumes nothing.
-use Rattle.std.specs.Prelude.{ℕ, Bool, cond, ◌&&◌, ◌||◌, List, [], ◌∷◌, map, ◌==◌, nat_le, slice_index, slice_index_or}
+use Rattle.std.specs.Prelude.{ℕ, Bool, cond, ◌&&◌, ◌||◌, List, [], ◌∷◌, ◌==◌, nat_le, slice_index}
 use Rattle.lexer.specs.declared.class.Class.{Class}
 use Rattle.lexer.specs.declared.class.Class.TheVariants.{Letter, Digit, Blank, Begins, Other}
 use Rattle.lexer.specs.declared.mark.Mark.{Mark}
@@ -24,11 +24,3 @@ begun b (m ∷ ms) = cond (b == slice_index (spelling m) 0) (Begins m) (begun b 
 
 unfoldable pub class : ℕ → Class
 class b = cond (letter b) Letter (cond (digit b) Digit (cond (blank b) Blank (begun b marks)))
-
--- The classes in the order of their numbers in the table.
-abbrev pub classes : List Class
-classes = Other ∷ Letter ∷ Digit ∷ Blank ∷ map Begins marks
-
--- The class with a number; a number past the last stands for a byte of no token.
-abbrev pub numbered : ℕ → Class
-numbered n = slice_index_or classes n Other

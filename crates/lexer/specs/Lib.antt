@@ -5,5 +5,6 @@ pub mod Table
 pub mod Rows
 pub mod Reading
 pub mod Faults
+pub mod Rest
 pub mod Tokens
 pub mod Bytes

@@ -1,5 +1,6 @@
 -- A text read from left to right. Assumes nothing.
-use Rattle.std.specs.Prelude.{ℕ, ◌+◌, Bool, true, false, cond, ◌&&◌, List, [], ◌∷◌, length, take, drop, ◌==◌, nat_le}
+use Rattle.std.specs.Prelude.{ℕ, ◌+◌, cond, List, [], ◌∷◌, length, take, drop, nat_eq, nat_le}
+use Rattle.std.specs.List.{starts_with}
 use Rattle.lexer.specs.declared.class.Class.{Class}
 use Rattle.lexer.specs.declared.class.Class.TheVariants.{Letter, Digit, Blank, Begins, Other}
 use Rattle.lexer.specs.declared.mark.Mark.{Mark}
@@ -11,19 +12,13 @@ use Rattle.lexer.specs.Lexemes.Seen.{token, long_row, stranger}
 use Rattle.lexer.specs.Marks.{spelling}
 use Rattle.lexer.specs.Rows.{row_size}
 
--- The text begins with these bytes.
-abbrev pub fronts : List ℕ → List ℕ → Bool
-fronts [] t = true
-fronts (b ∷ bs) [] = false
-fronts (b ∷ bs) (c ∷ t) = b == c && fronts bs t
-
 -- A row of n bytes at the front of a text is a token, unless it has more bytes than it may have.
 abbrev pub row_seen : (List ℕ → Lexeme) → ℕ → ℕ → List ℕ → Seen
 row_seen kind most n t = cond (nat_le n most) (token (kind (take n t))) long_row
 
 -- A mark stands there with all of its bytes, or its first byte is a stranger.
 abbrev pub mark_seen : Mark → List ℕ → Seen
-mark_seen m t = cond (fronts (spelling m) t) (token (mark m)) stranger
+mark_seen m t = cond (starts_with nat_eq t (spelling m)) (token (mark m)) stranger
 
 -- What stands at the front of a text whose first byte has this class. No token begins with a blank.
 abbrev pub seen_as : Class → List ℕ → Seen

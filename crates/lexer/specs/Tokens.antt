@@ -1,6 +1,5 @@
 -- What a token, or the answer to the question for one, says of a text. Assumes nothing.
 use Rattle.std.specs.Prelude.{◌≡◌, ℕ, List, [], take, drop, Ok, Err, Result}
-use Rattle.lexer.specs.declared.class.Class.{Class}
 use Rattle.lexer.specs.declared.fault.LexFault.{LexFault}
 use Rattle.lexer.specs.declared.token.Token.{Token}
 use Rattle.lexer.specs.declared.token.Token.TheVariants.{Word, Number, Mark, End}
@@ -8,7 +7,7 @@ use Rattle.lexer.specs.Faults.{fault_offset, fault_seen}
 use Rattle.lexer.specs.Lexemes.{Lexeme, Seen, Reader}
 use Rattle.lexer.specs.Lexemes.Lexeme.{word, number, mark, end}
 use Rattle.lexer.specs.Lexemes.Seen.{token}
-use Rattle.lexer.specs.Reading.{seen, size, seen_as, size_as, reader_of}
+use Rattle.lexer.specs.Reading.{size, reader_of}
 
 abbrev pub lexeme_of : Token → Lexeme
 lexeme_of (Word p o) = word p.now
@@ -49,13 +48,6 @@ pub record Told (s : Seen) (n : ℕ) (rest : List ℕ) (o : ℕ) (r : Result Tok
   pub what : met r ≡ s
   pub place : met_at r ≡ o
   pub part : Parted n rest r
-
--- The answer for the front of a rest whose first byte has this class, and for any rest.
-abbrev pub Told_as : Class → List ℕ → ℕ → Result Token LexFault → Type 0
-Told_as c rest o r = Told (seen_as c rest) (size_as c rest) rest o r
-
-abbrev pub Told_front : List ℕ → ℕ → Result Token LexFault → Type 0
-Told_front rest o r = Told (seen rest) (size rest) rest o r
 
 -- The answer is what the reader of the text sees at o, with its own part of the text.
 abbrev pub Tells : List ℕ → ℕ → Result Token LexFault → Type 0

@@ -2,8 +2,9 @@
 ghost use Rattle.std.specs.Prelude.{◌≡◌};
 ghost use Rattle.lexer.specs.Faults.{fault_number, fault_offset};
 
-// A fault, with the offset of the byte that shows it.
-#[derive(Clone, Copy, Debug, PartialEq)]
+// A fault, with the offset of the byte that shows it; each case has it itself, as each token does. It is told by
+// its number and its offset, and nobody prints it.
+#[derive(Clone, Copy, PartialEq, Eq, Debug)]
 pub enum LexFault {
     // A word or a number that is too long, at its first byte.
     LongRow(usize),
@@ -12,12 +13,12 @@ pub enum LexFault {
 }
 
 impl LexFault {
+    // Both have one number. A match, so that a third fault has to say its number.
     pub fn number(self) -> u8
         ensures { result ≡ fault_number self }
     {
         match self {
-            LexFault::LongRow(_) => 2,
-            LexFault::Stranger(_) => 2,
+            LexFault::LongRow(_) | LexFault::Stranger(_) => 2,
         }
     }
 
@@ -25,8 +26,7 @@ impl LexFault {
         ensures { result ≡ fault_offset self }
     {
         match self {
-            LexFault::LongRow(offset) => offset,
-            LexFault::Stranger(offset) => offset,
+            LexFault::LongRow(offset) | LexFault::Stranger(offset) => offset,
         }
     }
 }

@@ -3,7 +3,6 @@
 // The words, numbers and marks of a text.
 pub mod class;
 pub mod fault;
-mod front;
 pub mod lexer;
 pub mod mark;
 pub mod row;

@@ -4,7 +4,8 @@ ghost use Rattle.lexer.specs.Tokens.{offset_of, part_of};
 
 use crate::mark::Mark;
 
-#[derive(Clone, Copy)]
+// Each case has what it alone has: a word and a number borrow their text.
+#[derive(Clone, Copy, PartialEq, Eq, Debug)]
 pub enum Token<'a> {
     // A letter, and the letters and digits after it.
     Word(&'a [u8], usize),
@@ -22,10 +23,10 @@ impl<'a> Token<'a> {
         ensures { result ≡ offset_of self.now }
     {
         match self {
-            Token::Word(_, offset) => *offset,
-            Token::Number(_, offset) => *offset,
-            Token::Mark(_, _, offset) => *offset,
-            Token::End(offset) => *offset,
+            Token::Word(_, offset)
+            | Token::Number(_, offset)
+            | Token::Mark(_, _, offset)
+            | Token::End(offset) => *offset,
         }
     }
 
@@ -34,9 +35,7 @@ impl<'a> Token<'a> {
         ensures { result.now ≡ part_of self.now }
     {
         match self {
-            Token::Word(part, _) => part,
-            Token::Number(part, _) => part,
-            Token::Mark(_, part, _) => part,
+            Token::Word(part, _) | Token::Number(part, _) | Token::Mark(_, part, _) => part,
             Token::End(_) => &[],
         }
     }
