@@ -1,7 +1,6 @@
 pub mod Kinds
 pub mod Bytes
 pub mod Lines
-pub mod Listed
 pub mod Rules
 pub mod Meaning
 pub mod Law

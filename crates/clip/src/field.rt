@@ -1,37 +1,29 @@
-ghost use Rattle.std.specs.Prelude.{◌≡◌};
-ghost use Rattle.clip.specs.Bytes.{field_byte, field_of};
+ghost use Rattle.clip.specs.Bytes.{Decodes, field_byte};
+
+use crate::unknown_byte::UnknownByte;
 
 // The field that the telescope looks at.
-#[derive(Clone, Copy)]
+#[derive(Clone, Copy, PartialEq, Eq, Debug)]
 pub enum Field {
     // none was picked yet
-    Unset,
+    Unset = 0,
     // a faint one, for a dark sky
-    Faint,
+    Faint = 1,
     // a bright one
-    Bright,
+    Bright = 2,
 }
 
-impl Field {
-    // The byte by which a line tells the field.
-    pub(crate) fn byte(self) -> u8
-        ensures { result ≡ field_byte self }
-    {
-        match self {
-            Field::Unset => 0,
-            Field::Faint => 1,
-            Field::Bright => 2,
-        }
-    }
+impl TryFrom<u8> for Field {
+    type Error = UnknownByte;
 
-    // The field that a byte tells, where it is at most 2.
-    pub(crate) fn of(byte: u8) -> Field
-        ensures { result ≡ field_of byte }
-    {
+    ghost try_from_gives = { Decodes field_byte 2 };
+
+    fn try_from(byte: u8) -> Result<Field, UnknownByte> {
         match byte {
-            0 => Field::Unset,
-            1 => Field::Faint,
-            _ => Field::Bright,
+            0 => Ok(Field::Unset),
+            1 => Ok(Field::Faint),
+            2 => Ok(Field::Bright),
+            _ => Err(UnknownByte(byte)),
         }
     }
 }

@@ -1,23 +1,28 @@
-ghost use Rattle.std.specs.Prelude.{◌≡◌};
-ghost use Rattle.clip.specs.Kinds.{number, named, kind_of};
+ghost use Rattle.std.specs.Prelude.{◌≡◌, Some};
+ghost use Rattle.std.specs.Fmt.{styled_text};
+ghost use Rattle.clip.specs.Bytes.{Decodes};
+ghost use Rattle.clip.specs.Kinds.{number, named};
+
+use crate::unknown_byte::UnknownByte;
+use std::fmt;
 
 // The kinds of steps.
 #[derive(Clone, Copy, PartialEq, Eq, Debug)]
 pub enum Kind {
     // the monitor takes a reading
-    Read,
+    Read = 0,
     // the monitor sees that it clipped, and posts the handler
-    Clip,
+    Clip = 1,
     // the monitor posts the picker
-    Post,
+    Post = 2,
     // a pending task begins to run
-    Dispatch,
+    Dispatch = 3,
     // the handler marks the reading
-    Mark,
+    Mark = 4,
     // the picker takes the reading, and picks a field
-    Pick,
+    Pick = 5,
     // the picker passes over a marked reading
-    Pass,
+    Pass = 6,
 }
 
 impl Kind {
@@ -25,15 +30,7 @@ impl Kind {
     pub fn number(self) -> u8
         ensures { result ≡ number self }
     {
-        match self {
-            Kind::Read => 0,
-            Kind::Clip => 1,
-            Kind::Post => 2,
-            Kind::Dispatch => 3,
-            Kind::Mark => 4,
-            Kind::Pick => 5,
-            Kind::Pass => 6,
-        }
+        self as u8
     }
 
     // The word by which it is printed.
@@ -50,20 +47,33 @@ impl Kind {
             Kind::Pass => "pass",
         }
     }
+}
 
-    // The kind of a number, if it is one.
-    pub fn of(number: u8) -> Option<Kind>
-        ensures { result ≡ kind_of number }
-    {
+impl TryFrom<u8> for Kind {
+    type Error = UnknownByte;
+
+    ghost try_from_gives = { Decodes number 6 };
+
+    fn try_from(number: u8) -> Result<Kind, UnknownByte> {
         match number {
-            0 => Some(Kind::Read),
-            1 => Some(Kind::Clip),
-            2 => Some(Kind::Post),
-            3 => Some(Kind::Dispatch),
-            4 => Some(Kind::Mark),
-            5 => Some(Kind::Pick),
-            6 => Some(Kind::Pass),
-            _ => None,
+            0 => Ok(Kind::Read),
+            1 => Ok(Kind::Clip),
+            2 => Ok(Kind::Post),
+            3 => Ok(Kind::Dispatch),
+            4 => Ok(Kind::Mark),
+            5 => Ok(Kind::Pick),
+            6 => Ok(Kind::Pass),
+            _ => Err(UnknownByte(number)),
         }
+    }
+}
+
+impl fmt::Display for Kind {
+    ghost output = { λ k. Some (named k) };
+
+    ghost styled_output = { λ k s. Some (styled_text s (named k)) };
+
+    fn fmt<W: fmt::Write>(&self, f: &mut fmt::Formatter<W>) -> fmt::Result {
+        f.pad(self.name())
     }
 }

@@ -11,3 +11,4 @@ pub mod rules;
 pub mod search;
 pub mod stage;
 pub mod standing;
+pub mod unknown_byte;

@@ -1,4 +1,5 @@
 ghost use Rattle.std.specs.Prelude.{◌≡◌};
+ghost use Rattle.clip.specs.Bytes.{Flags};
 ghost use Rattle.clip.specs.Lines.{decoded, encoded};
 
 use crate::field::Field;
@@ -10,7 +11,7 @@ pub(crate) const READINGS: u8 = 5;
 // The brightest sky, which is one above the top of the monitor's scale.
 pub(crate) const BRIGHTEST: u8 = 4;
 // How many bytes a line has.
-pub(crate) const WIDTH: usize = 7;
+pub const WIDTH: usize = 7;
 
 // One moment of a night, which a line tells byte by byte in this order.
 #[derive(Clone, Copy)]
@@ -29,27 +30,25 @@ pub struct Night {
 }
 
 impl Night {
-    // The moment that a line tells, if its length and all its bytes are in range.
+    // The moment that a line tells, if its length and all its bytes are in range. By name, with encode beside it, and
+    // not by TryFrom: the calls of the machine decode, ask and encode, and none asks why a line tells no moment.
     pub fn decode(line: &[u8]) -> Option<Night>
         ensures { result ≡ decoded line.now }
     {
-        let [stage, readings, sky, standing, handler, picker, field] = line else {
+        let &[stage, readings, sky, standing, handler, picker, field] = line else {
             return None;
         };
-        if *stage > 4 || *readings > READINGS || *sky > BRIGHTEST {
-            return None;
-        }
-        if *standing > 2 || *handler > 1 || *picker > 1 || *field > 2 {
+        if readings > READINGS || sky > BRIGHTEST {
             return None;
         }
         Some(Night {
-            stage: Stage::of(*stage),
-            readings: *readings,
-            sky: *sky,
-            standing: Standing::of(*standing),
-            handler: *handler == 1,
-            picker: *picker == 1,
-            field: Field::of(*field),
+            stage: Stage::try_from(stage).ok()?,
+            readings,
+            sky,
+            standing: Standing::try_from(standing).ok()?,
+            handler: flag(handler)?,
+            picker: flag(picker)?,
+            field: Field::try_from(field).ok()?,
         })
     }
 
@@ -58,13 +57,24 @@ impl Night {
         ensures { result ≡ encoded self }
     {
         [
-            self.stage.byte(),
+            self.stage as u8,
             self.readings,
             self.sky,
-            self.standing.byte(),
-            if self.handler { 1 } else { 0 },
-            if self.picker { 1 } else { 0 },
-            self.field.byte(),
+            self.standing as u8,
+            u8::from(self.handler),
+            u8::from(self.picker),
+            self.field as u8,
         ]
+    }
+}
+
+// The flag that a byte tells; std has no TryFrom of a byte for a bool.
+fn flag(byte: u8) -> Option<bool>
+    ensures { Flags byte result }
+{
+    match byte {
+        0 => Some(false),
+        1 => Some(true),
+        _ => None,
     }
 }

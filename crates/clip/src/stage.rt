@@ -1,45 +1,35 @@
-ghost use Rattle.std.specs.Prelude.{◌≡◌};
-ghost use Rattle.clip.specs.Bytes.{stage_byte, stage_of};
+ghost use Rattle.clip.specs.Bytes.{Decodes, stage_byte};
+
+use crate::unknown_byte::UnknownByte;
 
 // What runs at a moment of the night.
-#[derive(Clone, Copy)]
+#[derive(Clone, Copy, PartialEq, Eq, Debug)]
 pub enum Stage {
     // nothing: a pending task is dispatched, or the monitor takes its next reading
-    Idle,
+    Idle = 0,
     // the monitor, which has seen a clip and posts the handler
-    Alarm,
+    Alarm = 1,
     // the monitor, which posts the picker
-    Report,
+    Report = 2,
     // the clip handler
-    Handler,
+    Handler = 3,
     // the field picker
-    Picker,
+    Picker = 4,
 }
 
-impl Stage {
-    // The byte by which a line tells the stage.
-    pub(crate) fn byte(self) -> u8
-        ensures { result ≡ stage_byte self }
-    {
-        match self {
-            Stage::Idle => 0,
-            Stage::Alarm => 1,
-            Stage::Report => 2,
-            Stage::Handler => 3,
-            Stage::Picker => 4,
-        }
-    }
+impl TryFrom<u8> for Stage {
+    type Error = UnknownByte;
 
-    // The stage that a byte tells, where it is at most 4.
-    pub(crate) fn of(byte: u8) -> Stage
-        ensures { result ≡ stage_of byte }
-    {
+    ghost try_from_gives = { Decodes stage_byte 4 };
+
+    fn try_from(byte: u8) -> Result<Stage, UnknownByte> {
         match byte {
-            0 => Stage::Idle,
-            1 => Stage::Alarm,
-            2 => Stage::Report,
-            3 => Stage::Handler,
-            _ => Stage::Picker,
+            0 => Ok(Stage::Idle),
+            1 => Ok(Stage::Alarm),
+            2 => Ok(Stage::Report),
+            3 => Ok(Stage::Handler),
+            4 => Ok(Stage::Picker),
+            _ => Err(UnknownByte(byte)),
         }
     }
 }

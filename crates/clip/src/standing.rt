@@ -1,37 +1,29 @@
-ghost use Rattle.std.specs.Prelude.{◌≡◌};
-ghost use Rattle.clip.specs.Bytes.{standing_byte, standing_of};
+ghost use Rattle.clip.specs.Bytes.{Decodes, standing_byte};
+
+use crate::unknown_byte::UnknownByte;
 
 // What has become of the last reading.
-#[derive(Clone, Copy)]
+#[derive(Clone, Copy, PartialEq, Eq, Debug)]
 pub enum Standing {
     // nothing yet
-    Fresh,
+    Fresh = 0,
     // the handler has marked it as clipped
-    Marked,
+    Marked = 1,
     // the picker has taken it for a true one
-    Taken,
+    Taken = 2,
 }
 
-impl Standing {
-    // The byte by which a line tells the standing.
-    pub(crate) fn byte(self) -> u8
-        ensures { result ≡ standing_byte self }
-    {
-        match self {
-            Standing::Fresh => 0,
-            Standing::Marked => 1,
-            Standing::Taken => 2,
-        }
-    }
+impl TryFrom<u8> for Standing {
+    type Error = UnknownByte;
 
-    // The standing that a byte tells, where it is at most 2.
-    pub(crate) fn of(byte: u8) -> Standing
-        ensures { result ≡ standing_of byte }
-    {
+    ghost try_from_gives = { Decodes standing_byte 2 };
+
+    fn try_from(byte: u8) -> Result<Standing, UnknownByte> {
         match byte {
-            0 => Standing::Fresh,
-            1 => Standing::Marked,
-            _ => Standing::Taken,
+            0 => Ok(Standing::Fresh),
+            1 => Ok(Standing::Marked),
+            2 => Ok(Standing::Taken),
+            _ => Err(UnknownByte(byte)),
         }
     }
 }

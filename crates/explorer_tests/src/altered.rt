@@ -97,9 +97,9 @@ fn trace_by(notes: [u32; 3], area: &mut [u8]) -> Result<u16, Refusal> {
     let mut bytes = [0u8; 15];
     let mut store = RowStore::new(1, &mut bytes);
     let mut asker = ask(&machine, &mut store)?;
-    asker.advance(&machine, &mut store, 9)?;
+    asker.advance(None, &machine, &mut store, 9)?;
     refill(&mut store, &[(0, notes[0]), (1, notes[1]), (2, notes[2])]);
-    asker.trace(&machine, &store, area)
+    asker.trace(None, &machine, &store, area)
 }
 
 // The notes that the question itself wrote: 256 * 1 + 0 leads from entry 2 to entry 1, and 0 from there to entry 0.

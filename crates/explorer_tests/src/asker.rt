@@ -1,6 +1,6 @@
-ghost use Rattle.std.specs.Prelude.{◌≡◌, true, Some, None as Absent};
+ghost use Rattle.std.specs.Prelude.{◌≡◌, true, Some, None as Absent, Ok, Err, MatchResult};
 ghost use Rattle.explorer.specs.Told.{state};
-ghost use Rattle.explorer_tests.specs.Held.{holds};
+ghost use Rattle.explorer_tests.specs.Held.{holds, Ends};
 
 use crate::too_wide::TooWide;
 use explorer::explorer::Explorer;
@@ -23,6 +23,7 @@ pub(crate) struct Asker {
 
 // abandon looks at nothing but the ticket, so any machine and store do.
 impl Drop for Asker {
+    #[tactic(auto, using(crate::proofs::Holding::never_refused))]
     fn drop(self) {
         let Asker {
             mut explorer,
@@ -46,160 +47,131 @@ impl Asker {
         }
     }
 
+    #[tactic(auto, using(crate::proofs::Holding::begun_none, crate::proofs::Holding::begun_held, crate::proofs::Holding::held_refused))]
     pub(crate) fn begin<M: Machine, S: Store>(
         &mut self,
         machine: &M,
         store: &mut S,
     ) -> Result<(), Refusal> {
         let ticket = self.explorer.begin(machine, store)?;
-        match self.ticket.replace(ticket) {
-            None => Ok(()),
-            Some(_) => unreachable(),
-        }
+        put_back(&mut self.ticket, ticket);
+        Ok(())
     }
 
-    // The calls that show the asker's own ticket. One that holds none is told 24, as with no ticket out.
+    // The calls that show a ticket: the asker's own or, where another asker is named, that one's. Where the one that is
+    // to show it holds none, 24 is told, as with no ticket out.
 
+    #[tactic(auto, using(crate::proofs::Holding::held_advanced))]
     pub(crate) fn advance<M: Machine, S: Store>(
         &mut self,
+        other: Option<&Asker>,
         machine: &M,
         store: &mut S,
         grant: u16,
     ) -> Result<(u16, Verdict), Refusal> {
-        match &self.ticket {
-            Some(ticket) => self.explorer.advance(ticket, machine, store, grant),
-            None => Err(Refusal::NoTicket),
-        }
+        let ticket = shown(&self.ticket, other)?;
+        self.explorer.advance(ticket, machine, store, grant)
     }
 
     pub(crate) fn verdict<M: Machine, S: Store>(
         &self,
+        other: Option<&Asker>,
         machine: &M,
         store: &S,
     ) -> Result<Report, Refusal> {
-        self.verdict_with(self, machine, store)
+        let ticket = shown(&self.ticket, other)?;
+        self.explorer.verdict(ticket, machine, store)
     }
 
     pub(crate) fn trace<M: Machine, S: Store>(
         &self,
+        other: Option<&Asker>,
         machine: &M,
         store: &S,
         area: &mut [u8],
     ) -> Result<u16, Refusal> {
-        self.trace_with(self, machine, store, area)
+        let ticket = shown(&self.ticket, other)?;
+        self.explorer.trace(ticket, machine, store, area)
     }
+
+    // Where another asker's ticket is taken, the other holds this one's from then on.
 
     pub(crate) fn settle<M: Machine, S: Store>(
         &mut self,
+        other: Option<&mut Asker>,
         machine: &M,
         store: &S,
     ) -> Result<(Verdict, u16), Refusal> {
-        match self.ticket.take() {
-            Some(ticket) => match self.explorer.settle(ticket, machine, store) {
-                Ok(ending) => Ok(ending),
-                Err(Returned { ticket, refusal }) => {
-                    put_back(&mut self.ticket, ticket);
-                    Err(refusal)
-                }
-            },
-            None => Err(Refusal::NoTicket),
-        }
+        let Some(other) = other else {
+            return settle_by(&mut self.explorer, &mut self.ticket, machine, store);
+        };
+        let ending = settle_by(&mut self.explorer, &mut other.ticket, machine, store)?;
+        pass_on(&mut self.ticket, &mut other.ticket);
+        Ok(ending)
     }
 
     pub(crate) fn abandon<M: Machine, S: Store>(
         &mut self,
+        other: Option<&mut Asker>,
         machine: &M,
         store: &S,
     ) -> Result<(), Refusal> {
-        match self.ticket.take() {
-            Some(ticket) => match self.explorer.abandon(ticket, machine, store) {
-                Ok(()) => Ok(()),
-                Err(_) => unreachable(),
-            },
-            None => Err(Refusal::NoTicket),
-        }
+        let Some(other) = other else {
+            return abandon_by(&mut self.explorer, &mut self.ticket, machine, store);
+        };
+        abandon_by(&mut self.explorer, &mut other.ticket, machine, store)?;
+        pass_on(&mut self.ticket, &mut other.ticket);
+        Ok(())
     }
+}
 
-    // The calls that show the ticket of another asker.
+// The ticket that a call is shown.
+fn shown<'a>(own: &'a Option<Ticket>, other: Option<&'a Asker>) -> Result<&'a Ticket, Refusal> {
+    let place = other.map_or(own, |other| &other.ticket);
+    place.as_ref().ok_or(Refusal::NoTicket)
+}
 
-    pub(crate) fn advance_with<M: Machine, S: Store>(
-        &mut self,
-        other: &Asker,
-        machine: &M,
-        store: &mut S,
-        grant: u16,
-    ) -> Result<(u16, Verdict), Refusal> {
-        match &other.ticket {
-            Some(ticket) => self.explorer.advance(ticket, machine, store, grant),
-            None => Err(Refusal::NoTicket),
-        }
-    }
+// The calls that take the ticket, out of that place. Two functions of two lines, which differ in the call and in what it
+// tells; putting back what a refusal hands back is given_back for both.
 
-    pub(crate) fn verdict_with<M: Machine, S: Store>(
-        &self,
-        other: &Asker,
-        machine: &M,
-        store: &S,
-    ) -> Result<Report, Refusal> {
-        match &other.ticket {
-            Some(ticket) => self.explorer.verdict(ticket, machine, store),
-            None => Err(Refusal::NoTicket),
-        }
-    }
+fn settle_by<M: Machine, S: Store>(
+    explorer: &mut Explorer,
+    place: &mut Option<Ticket>,
+    machine: &M,
+    store: &S,
+) -> Result<(Verdict, u16), Refusal>
+    ensures { Ends (state explorer.old) place.old result (state explorer.new) place.new }
+{
+    let ticket = place.take().ok_or(Refusal::NoTicket)?;
+    given_back(place, explorer.settle(ticket, machine, store))
+}
 
-    pub(crate) fn trace_with<M: Machine, S: Store>(
-        &self,
-        other: &Asker,
-        machine: &M,
-        store: &S,
-        area: &mut [u8],
-    ) -> Result<u16, Refusal> {
-        match &other.ticket {
-            Some(ticket) => self.explorer.trace(ticket, machine, store, area),
-            None => Err(Refusal::NoTicket),
-        }
-    }
+#[tactic(auto, using(crate::proofs::Holding::abandon_ends))]
+fn abandon_by<M: Machine, S: Store>(
+    explorer: &mut Explorer,
+    place: &mut Option<Ticket>,
+    machine: &M,
+    store: &S,
+) -> Result<(), Refusal>
+    ensures { Ends (state explorer.old) place.old result (state explorer.new) place.new }
+{
+    let ticket = place.take().ok_or(Refusal::NoTicket)?;
+    given_back(place, explorer.abandon(ticket, machine, store))
+}
 
-    // Where another asker's ticket is taken, the other holds this one's from then on.
-    pub(crate) fn settle_with<M: Machine, S: Store>(
-        &mut self,
-        other: &mut Asker,
-        machine: &M,
-        store: &S,
-    ) -> Result<(Verdict, u16), Refusal> {
-        match other.ticket.take() {
-            Some(ticket) => match self.explorer.settle(ticket, machine, store) {
-                Ok(ending) => {
-                    pass_on(&mut self.ticket, &mut other.ticket);
-                    Ok(ending)
-                }
-                Err(Returned { ticket, refusal }) => {
-                    put_back(&mut other.ticket, ticket);
-                    Err(refusal)
-                }
-            },
-            None => Err(Refusal::NoTicket),
-        }
-    }
-
-    pub(crate) fn abandon_with<M: Machine, S: Store>(
-        &mut self,
-        other: &mut Asker,
-        machine: &M,
-        store: &S,
-    ) -> Result<(), Refusal> {
-        match other.ticket.take() {
-            Some(ticket) => match self.explorer.abandon(ticket, machine, store) {
-                Ok(()) => {
-                    pass_on(&mut self.ticket, &mut other.ticket);
-                    Ok(())
-                }
-                Err(Returned { ticket, refusal }) => {
-                    put_back(&mut other.ticket, ticket);
-                    Err(refusal)
-                }
-            },
-            None => Err(Refusal::NoTicket),
+// What a call tells that takes the ticket. Refused, the ticket goes back into its place.
+fn given_back<T: Drop>(
+    place: &mut Option<Ticket>,
+    answer: Result<T, Returned>,
+) -> Result<T, Refusal>
+    requires { place.old ≡ Absent }
+    ensures { MatchResult answer (λ x. (result ≡ Ok x) × (place.new ≡ Absent)) (λ r. (result ≡ Err r.refusal) × (place.new ≡ Some r.ticket)) }
+{
+    match answer {
+        Ok(ending) => Ok(ending),
+        Err(Returned { ticket, refusal }) => {
+            put_back(place, ticket);
+            Err(refusal)
         }
     }
 }

@@ -56,13 +56,15 @@ impl Machine for Counter {
         Ok(())
     }
 
+    #[tactic(auto, using(crate::specs::CountersLaw::counted))]
     fn count(&self, line: &[u8]) -> Result<u8, Refusal> {
-        let [value] = line else {
+        let &[value] = line else {
             return Err(Refusal::Length);
         };
-        Ok(self.count_at(*value))
+        Ok(self.count_at(value))
     }
 
+    #[tactic(auto, using(crate::specs::CountersLaw::counted, crate::specs::CountersLaw::stepped))]
     fn step(&self, line: &[u8], number: u8, out: &mut [u8]) -> Result<(u8, u8), Refusal> {
         if line.len() != 1 || out.len() != 1 {
             return Err(Refusal::Length);
@@ -76,16 +78,16 @@ impl Machine for Counter {
     }
 
     fn goal(&self, line: &[u8]) -> Result<bool, Refusal> {
-        let [value] = line else {
+        let &[value] = line else {
             return Err(Refusal::Length);
         };
-        Ok(*value == self.goal)
+        Ok(value == self.goal)
     }
 
     fn tight(&self, line: &[u8]) -> Result<bool, Refusal> {
-        let [value] = line else {
+        let &[value] = line else {
             return Err(Refusal::Length);
         };
-        Ok(self.strict && self.limit.saturating_sub(*value) < self.steps)
+        Ok(self.strict && self.limit.saturating_sub(value) < self.steps)
     }
 }

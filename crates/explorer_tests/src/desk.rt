@@ -43,7 +43,7 @@ pub(crate) enum Call {
     // by the first explorer, on the desk's machine and store, or on what is named; its own ticket is shown
     Own(Act),
     On(Named, Act),
-    // the same, but the ticket of the second explorer is shown
+    // the same, but the ticket of the second explorer is shown; a begin shows no ticket, so it begins as with On
     Showing(Named, Act),
     // by the second explorer, on the desk's machine and a store of its own
     Other(Act),
@@ -56,10 +56,11 @@ pub(crate) enum Call {
 // What a call tells.
 #[derive(Clone, Copy, PartialEq, Eq, Debug)]
 pub(crate) enum Heard {
+    // by the number in docs/explorer.md, so that a list of answers is as short as the list of calls
     Refused(u8),
     Began,
     Advanced(u16, Verdict),
-    // verdict, depth, entries expanded, entries kept
+    // verdict, depth, entries expanded, entries kept; in a row, so that an answer is one line
     Told(Verdict, u16, u16, u16),
     Traced(u16),
     Settled(Verdict, u16),
@@ -102,135 +103,91 @@ pub(crate) fn run_beside<const N: usize>(
         second: RowStore::new(1, &mut second[0..end]),
     };
     let mut heard = [Heard::Done; N];
-    for place in 0..N {
-        heard[place] = desk.make(calls[place]);
+    for (told, &call) in heard.iter_mut().zip(&calls) {
+        *told = desk.make(call);
     }
     heard
 }
 
 impl Desk<'_> {
     fn make(&mut self, call: Call) -> Heard {
+        let Desk {
+            asker,
+            other,
+            machine,
+            store,
+            second,
+        } = self;
         match call {
-            Call::Own(act) => self.own(Named::Own, act),
-            Call::On(named, act) => self.own(named, act),
-            Call::Showing(named, act) => self.showing(named, act),
-            Call::Other(act) => own_on(&mut self.other, act, &self.machine, &mut self.second),
-            Call::Add(value) => match self.store.add(&[value], 0) {
-                Ok(()) => Heard::Done,
-                Err(refusal) => Heard::Refused(refusal.number()),
-            },
+            Call::Own(act) => tell(asker, None, act, machine, store),
+            Call::On(named, act) => tell_on(named, asker, None, act, machine, store),
+            Call::Showing(named, act) => tell_on(named, asker, Some(other), act, machine, store),
+            Call::Other(act) => tell(other, None, act, machine, second),
+            Call::Add(value) => store.add(&[value], 0).map_or_else(
+                |refusal| Heard::Refused(refusal.number()),
+                |()| Heard::Done,
+            ),
             Call::Clear => {
-                self.store.clear();
+                store.clear();
                 Heard::Done
             }
-            Call::Size => Heard::Holds(self.store.size()),
-        }
-    }
-
-    // A call that shows the first explorer's own ticket.
-    fn own(&mut self, named: Named, act: Act) -> Heard {
-        let asker = &mut self.asker;
-        match named {
-            Named::Own => own_on(asker, act, &self.machine, &mut self.store),
-            Named::TooWide => own_on(asker, act, &TooWide, &mut self.store),
-            Named::Wider => own_on(asker, act, &ClipWatch::new(Posting::Above), &mut self.store),
-            Named::OtherStore => {
-                own_on(asker, act, &self.machine, &mut RowStore::new(2, &mut []))
-            }
-            Named::NoRoom => own_on(asker, act, &self.machine, &mut RowStore::new(1, &mut [])),
-        }
-    }
-
-    // A call that shows the second explorer's ticket to the first.
-    fn showing(&mut self, named: Named, act: Act) -> Heard {
-        let asker = &mut self.asker;
-        let other = &mut self.other;
-        match named {
-            Named::Own => showing_on(asker, other, act, &self.machine, &mut self.store),
-            Named::TooWide => showing_on(asker, other, act, &TooWide, &mut self.store),
-            Named::Wider => {
-                let watch = ClipWatch::new(Posting::Above);
-                showing_on(asker, other, act, &watch, &mut self.store)
-            }
-            Named::OtherStore => {
-                let mut store = RowStore::new(2, &mut []);
-                showing_on(asker, other, act, &self.machine, &mut store)
-            }
-            Named::NoRoom => {
-                let mut store = RowStore::new(1, &mut []);
-                showing_on(asker, other, act, &self.machine, &mut store)
-            }
+            Call::Size => Heard::Holds(store.size()),
         }
     }
 }
 
-fn own_on<M: Machine, S: Store>(asker: &mut Asker, act: Act, machine: &M, store: &mut S) -> Heard {
-    let mut area = [0u8; 4];
-    match act {
-        Act::Begin => match asker.begin(machine, store) {
-            Ok(()) => Heard::Began,
-            Err(refusal) => Heard::Refused(refusal.number()),
-        },
-        Act::Advance(grant) => advanced(asker.advance(machine, store, grant)),
-        Act::Verdict => told(asker.verdict(machine, store)),
-        Act::Trace(room) => traced(asker.trace(machine, store, &mut area[0..room.min(4)])),
-        Act::Settle => settled(asker.settle(machine, store)),
-        Act::Abandon => abandoned(asker.abandon(machine, store)),
-    }
-}
-
-// begin shows no ticket, so there is no other's to show.
-fn showing_on<M: Machine, S: Store>(
+// What a call tells on what is named, and for the rest on this machine and store. The arms differ in types, not in
+// values alone.
+fn tell_on(
+    named: Named,
     asker: &mut Asker,
-    other: &mut Asker,
+    other: Option<&mut Asker>,
+    act: Act,
+    machine: &Counter,
+    store: &mut RowStore,
+) -> Heard {
+    match named {
+        Named::Own => tell(asker, other, act, machine, store),
+        Named::TooWide => tell(asker, other, act, &TooWide, store),
+        Named::Wider => tell(asker, other, act, &ClipWatch::new(Posting::Above), store),
+        Named::OtherStore => tell(asker, other, act, machine, &mut RowStore::new(2, &mut [])),
+        Named::NoRoom => tell(asker, other, act, machine, &mut RowStore::new(1, &mut [])),
+    }
+}
+
+// What a call tells, which shows the asker's own ticket or that of the other.
+fn tell<M: Machine, S: Store>(
+    asker: &mut Asker,
+    other: Option<&mut Asker>,
     act: Act,
     machine: &M,
     store: &mut S,
 ) -> Heard {
-    let mut area = [0u8; 4];
-    match act {
-        Act::Begin => Heard::Done,
-        Act::Advance(grant) => advanced(asker.advance_with(other, machine, store, grant)),
-        Act::Verdict => told(asker.verdict_with(other, machine, store)),
-        Act::Trace(room) => {
-            traced(asker.trace_with(other, machine, store, &mut area[0..room.min(4)]))
-        }
-        Act::Settle => settled(asker.settle_with(other, machine, store)),
-        Act::Abandon => abandoned(asker.abandon_with(other, machine, store)),
-    }
-}
-
-fn advanced(answer: Result<(u16, Verdict), Refusal>) -> Heard {
-    match answer {
-        Ok((made, verdict)) => Heard::Advanced(made, verdict),
-        Err(refusal) => Heard::Refused(refusal.number()),
-    }
-}
-
-fn told(answer: Result<Report, Refusal>) -> Heard {
-    match answer {
-        Ok(report) => Heard::Told(report.verdict, report.depth, report.expanded, report.kept),
-        Err(refusal) => Heard::Refused(refusal.number()),
-    }
-}
-
-fn traced(answer: Result<u16, Refusal>) -> Heard {
-    match answer {
-        Ok(depth) => Heard::Traced(depth),
-        Err(refusal) => Heard::Refused(refusal.number()),
-    }
-}
-
-fn settled(answer: Result<(Verdict, u16), Refusal>) -> Heard {
-    match answer {
-        Ok((verdict, depth)) => Heard::Settled(verdict, depth),
-        Err(refusal) => Heard::Refused(refusal.number()),
-    }
-}
-
-fn abandoned(answer: Result<(), Refusal>) -> Heard {
-    match answer {
-        Ok(()) => Heard::Abandoned,
-        Err(refusal) => Heard::Refused(refusal.number()),
-    }
+    let answer = match act {
+        Act::Begin => asker.begin(machine, store).map(|()| Heard::Began),
+        Act::Advance(grant) => asker
+            .advance(other.as_deref(), machine, store, grant)
+            .map(|(used, verdict)| Heard::Advanced(used, verdict)),
+        Act::Verdict => asker.verdict(other.as_deref(), machine, store).map(|said| Heard::Told(
+            said.verdict,
+            said.depth,
+            said.expanded,
+            said.kept,
+        )),
+        Act::Trace(room) => asker
+            .trace(
+                other.as_deref(),
+                machine,
+                store,
+                &mut [0u8; 4][..room.min(4)],
+            )
+            .map(Heard::Traced),
+        Act::Settle => asker
+            .settle(other, machine, store)
+            .map(|(verdict, depth)| Heard::Settled(verdict, depth)),
+        Act::Abandon => asker
+            .abandon(other, machine, store)
+            .map(|()| Heard::Abandoned),
+    };
+    answer.unwrap_or_else(|refusal| Heard::Refused(refusal.number()))
 }

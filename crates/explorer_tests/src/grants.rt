@@ -70,8 +70,8 @@ fn the_same_bytes(rt: HostRuntime) -> Result<(), Fail> {
     let mut paused = [9u8; 30];
     let mut store = RowStore::new(1, &mut paused);
     let mut asker = ask(&machine, &mut store)?;
-    asker.advance(&machine, &mut store, 1)?;
-    asker.advance(&machine, &mut store, 3)?;
+    asker.advance(None, &machine, &mut store, 1)?;
+    asker.advance(None, &machine, &mut store, 3)?;
     let mut at_once = [9u8; 30];
     ask_in(machine, &mut at_once, 4)?;
     assert_eq!(rt; paused, at_once);
@@ -90,8 +90,8 @@ fn after_the_end(machine: Counter) -> Result<(u16, Verdict), Refusal> {
     let mut bytes = [0u8; 15];
     let mut store = RowStore::new(1, &mut bytes);
     let mut asker = ask(&machine, &mut store)?;
-    asker.advance(&machine, &mut store, 100)?;
-    asker.advance(&machine, &mut store, 100)
+    asker.advance(None, &machine, &mut store, 100)?;
+    asker.advance(None, &machine, &mut store, 100)
 }
 
 // Once the verdict is no longer open, an advance is accepted, makes no expansion and tells the verdict.

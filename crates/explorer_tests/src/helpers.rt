@@ -17,13 +17,11 @@ pub(crate) fn ask<M: Machine, S: Store>(machine: &M, store: &mut S) -> Result<As
 
 // The number of the refusal, or 0 where the call was accepted.
 pub(crate) fn refused<T: Drop>(answer: Result<T, Refusal>) -> u8 {
-    match answer {
-        Ok(_) => 0,
-        Err(refusal) => refusal.number(),
-    }
+    answer.err().map_or(0, Refusal::number)
 }
 
-// What a report says, in the order of docs/explorer.md: verdict, depth, entries expanded, entries kept.
+// What a report says, in the order of docs/explorer.md: verdict, depth, entries expanded, entries kept. As a tuple, so
+// that what a test expects is one line.
 pub(crate) fn told(report: Report) -> (Verdict, u16, u16, u16) {
     (report.verdict, report.depth, report.expanded, report.kept)
 }
@@ -46,8 +44,8 @@ pub(crate) fn ask_in(
 ) -> Result<((u16, Verdict), (Verdict, u16, u16, u16)), Refusal> {
     let mut store = RowStore::new(1, bytes);
     let mut asker = ask(&machine, &mut store)?;
-    let advanced = asker.advance(&machine, &mut store, grant)?;
-    let report = asker.verdict(&machine, &store)?;
+    let advanced = asker.advance(None, &machine, &mut store, grant)?;
+    let report = asker.verdict(None, &machine, &store)?;
     Ok((advanced, told(report)))
 }
 
@@ -59,7 +57,7 @@ pub(crate) fn by_ones(goal: u8) -> Counter {
 // Puts other entries, each of one byte and a note, in place of all that the store holds.
 pub(crate) fn refill<S: Store>(store: &mut S, entries: &[(u8, u32)]) {
     store.clear();
-    for (value, note) in entries {
-        let _ = store.add(&[*value], *note);
+    for &(value, note) in entries {
+        let _ = store.add(&[value], note);
     }
 }

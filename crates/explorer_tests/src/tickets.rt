@@ -185,11 +185,11 @@ fn another_machine_after_settle(rt: HostRuntime) -> Result<(), Fail> {
     let mut bytes = [0u8; 15];
     let mut store = RowStore::new(1, &mut bytes);
     let mut asker = ask(&by_ones(0), &mut store)?;
-    asker.settle(&by_ones(0), &store)?;
+    asker.settle(None, &by_ones(0), &store)?;
     let machine = Counter::new(1, 9, 1, false);
     asker.begin(&machine, &mut store)?;
-    asker.advance(&machine, &mut store, 9)?;
-    let report = told(asker.verdict(&machine, &store)?);
+    asker.advance(None, &machine, &mut store, 9)?;
+    let report = told(asker.verdict(None, &machine, &store)?);
     assert_eq!(rt; report, (Verdict::None, 0, 2, 2));
     Ok(())
 }

@@ -13,8 +13,8 @@ fn trace(machine: Counter, area: &mut [u8]) -> Result<u16, Refusal> {
     let mut bytes = [0u8; 30];
     let mut store = RowStore::new(1, &mut bytes);
     let mut asker = ask(&machine, &mut store)?;
-    asker.advance(&machine, &mut store, 100)?;
-    asker.trace(&machine, &store, area)
+    asker.advance(None, &machine, &mut store, 100)?;
+    asker.trace(None, &machine, &store, area)
 }
 
 // Bytes behind the trace stay as they were.
@@ -71,14 +71,11 @@ fn leads_to_the_goal(rt: HostRuntime) -> Result<(), Fail> {
     let machine = Counter::new(9, 5, 2, true);
     let mut steps = [0u8; 3];
     trace(machine, &mut steps)?;
-    let [first, second, third] = steps;
-    let mut start = [9u8; 1];
-    machine.start(&mut start)?;
-    let line = after(
-        machine,
-        after(machine, after(machine, start, first)?, second)?,
-        third,
-    )?;
+    let mut line = [9u8; 1];
+    machine.start(&mut line)?;
+    for number in steps {
+        line = after(machine, line, number)?;
+    }
     assert_eq!(rt; (line, machine.goal(&line)?), ([5], true));
     Ok(())
 }
