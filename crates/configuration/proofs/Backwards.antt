@@ -1,9 +1,9 @@
 -- A list that is told from its end: what is first there, and what changes at the end.
-use Rattle.std.proofs.Common.{◌≡◌, ℕ, ◌+◌, ◌-◌, ◌<◌, ◌≤◌, Bool, true, false, not, cond, ltb, List, [], ◌∷◌, ◌++◌, reverse, length, take, drop, set, Some, sym, refl, ap, ◌∙◌, subst, arith}
+use Rattle.std.proofs.Common.{◌≡◌, ℕ, ◌+◌, ◌-◌, ◌<◌, ◌≤◌, Bool, cond, ltb, List, [], ◌∷◌, ◌++◌, reverse, length, take, drop, set, Some, sym, refl, ap, ◌∙◌, subst, arith}
 use Rattle.std.specs.List.{slice_get}
 use Rattle.std.proofs.lemmas.List.{reverse-reverse, reverse-append, length-append, length-reverse, length-drop, take_at, drop_at, take-append-drop}
 use Rattle.std.proofs.lemmas.Grind.{reverse_onto}
-use Rattle.std.proofs.lemmas.Bool.{ltb-true, ltb-false}
+use Rattle.std.proofs.lemmas.Bool.{lt-ltb}
 use Rattle.configuration.specs.declared.frame.Frame.{Frame}
 use Rattle.configuration.specs.Ops.{first, replaced}
 
@@ -61,17 +61,9 @@ drop_last k xs h =
     let m = length xs - k in
     ap (drop k) (split_end k xs h) ∙ drop_at (reverse (drop m xs)) (reverse (take m xs)) k (last_long k xs h)
 
-absurd_bool : {A : Type 0} → true ≡ false → A
-absurd_bool e = let z : ◌≡◌ {A = ℕ} 1 0 = ap (λ b. cond b 1 0) e in absurd (omega (arith, z))
-
--- What a push leaves, accepted and refused.
-pub put_behind : {X : Type 0} (m : ℕ) (xs ys : List X) (x : X) (b : Bool) → b ≡ ltb (length xs) m → not b ≡ false → ys ≡ cond b (xs ++ x ∷ []) xs → (length xs < m) × (ys ≡ xs ++ x ∷ [])
-put_behind m xs ys x true e h f = (ltb-true (length xs) m (sym e), f)
-put_behind m xs ys x false e h f = absurd_bool h
-
-pub left_alone : {X : Type 0} (m : ℕ) (xs ys : List X) (x : X) (b : Bool) → b ≡ ltb (length xs) m → not b ≡ true → ys ≡ cond b (xs ++ x ∷ []) xs → (m ≤ length xs) × (ys ≡ xs)
-left_alone m xs ys x true e h f = absurd_bool (sym h)
-left_alone m xs ys x false e h f = (ltb-false (length xs) m (sym e), f)
+-- What a push leaves where there is room.
+pub put_behind : {X : Type 0} (m : ℕ) (xs ys : List X) (x : X) (b : Bool) → b ≡ ltb (length xs) m → length xs < m → ys ≡ cond b (xs ++ x ∷ []) xs → ys ≡ xs ++ x ∷ []
+put_behind m xs ys x b e lt f = f ∙ ap (λ d. cond d (xs ++ x ∷ []) xs) (e ∙ lt-ltb (length xs) m lt)
 
 pub one_longer : {X : Type 0} (xs ys : List X) (x : X) → ys ≡ xs ++ x ∷ [] → length ys ≡ length xs + 1
 one_longer xs ys x e = ap length e ∙ length-append xs (x ∷ [])

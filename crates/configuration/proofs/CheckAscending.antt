@@ -1,42 +1,31 @@
--- Tasks tested one after another for their order: what is left decides as all did.
-use Rattle.std.proofs.Common.{◌≡◌, ℕ, ◌+◌, ◌<◌, ◌≤◌, Bool, true, false, ◌&&◌, leb, List, [], ◌∷◌, map, length, get_or, drop, sym, refl, ap, ◌∙◌, arith}
-use Rattle.std.proofs.lemmas.Bool.{le-leb, lt-leb}
-use Rattle.configuration.specs.Config.{Pending}
+-- Tasks whose keys each are no greater than the next one's ascend.
+use Rattle.std.proofs.Common.{◌≡◌, ℕ, zero, suc, ◌+◌, ◌<◌, Bool, true, false, ◌&&◌, leb, Some, List, [], ◌∷◌, map, length, get_or, refl, ap, ap₂, ◌∙◌, arith, tests}
+use Rattle.std.specs.List.{IsAllAdjacentAnswer}
+use Rattle.std.specs.Ordering.{nat_cmp, is_le, is_some_and}
 use Rattle.configuration.specs.Layout.{key}
 use Rattle.configuration.specs.Tests.{ascends}
 use Rattle.configuration.specs.Meaning.{Task, frames_of}
-use Rattle.configuration.proofs.CheckAll.{told_more, told_all}
 
--- The tasks ascend, and none is below k.
-abbrev pub rises : ℕ → List Pending → Bool
-rises k [] = true
-rises k (u ∷ us) = leb k (key u) && ascends (u ∷ us)
+as_leb : (m n : ℕ) → is_some_and is_le (Some (nat_cmp m n)) ≡ leb m n
+as_leb m n = grind (arith, tests)
 
-pub rises_none : (us : List Pending) → rises 0 us ≡ ascends us
+each_pair : (us : List Task) → ((k : ℕ) (d : Task) → k + 1 < length us → true ≡ leb (key (frames_of (get_or us k d))) (key (frames_of (get_or us (k + 1) d)))) → true ≡ ascends (map frames_of us)
 unfolding ascends
-rises_none [] = refl
-rises_none (u ∷ us) = ap (λ b. b && ascends (u ∷ us)) (le-leb 0 (key u) (omega arith))
+each_pair [] h = refl
+each_pair (u ∷ []) h = refl
+each_pair (u ∷ v ∷ us) h = ap₂ ◌&&◌ (h 0 u (omega arith)) (each_pair (v ∷ us) (λ k d l. let e : suc k + 1 ≡ suc (k + 1) = omega arith in rw e at (h (suc k) d (omega arith))))
 
-rises_next : (u : Pending) (us : List Pending) → ascends (u ∷ us) ≡ rises (key u) us
+later : (b c : Bool) → false ≡ c → false ≡ (b && c)
+later true c e = e
+later false c e = refl
+
+some_pair : (us : List Task) (k : ℕ) → k + 1 < length us → ((d : Task) → false ≡ leb (key (frames_of (get_or us k d))) (key (frames_of (get_or us (k + 1) d)))) → false ≡ ascends (map frames_of us)
 unfolding ascends
-rises_next u [] = refl
-rises_next u (v ∷ us) = refl
+some_pair [] k l h = absurd (omega arith)
+some_pair (u ∷ []) k l h = absurd (omega arith)
+some_pair (u ∷ v ∷ us) zero l h = ap (λ b. b && ascends (frames_of v ∷ map frames_of us)) (h u)
+some_pair (u ∷ v ∷ us) (suc k) l h = later (leb (key (frames_of u)) (key (frames_of v))) _ (some_pair (v ∷ us) k (omega arith) (λ d. let e : suc k + 1 ≡ suc (k + 1) = omega arith in rw e at (h d)))
 
--- One task more.
-pub rises_more : (k a n : ℕ) (us : List Task) (u : Task) → n < length us → u ≡ get_or us n u → a ≡ key (frames_of u) → k ≤ a → rises a (map frames_of (drop (n + 1) us)) ≡ rises k (map frames_of (drop n us))
-rises_more k a n us u lt eu ea le =
-    let rest = map frames_of (drop (n + 1) us) in
-    ap (λ y. rises y rest) ea
-    ∙ (sym (rises_next (frames_of u) rest)
-    ∙ (ap (λ b. b && ascends (frames_of u ∷ rest)) (sym (le-leb k (key (frames_of u)) (omega arith)))
-    ∙ ap (rises k) (sym (told_more frames_of us n u lt eu))))
-
--- One that is below the last, and no more.
-pub rises_stop : (k a n : ℕ) (us : List Task) (u : Task) → n < length us → u ≡ get_or us n u → a ≡ key (frames_of u) → a < k → false ≡ rises k (map frames_of (drop n us))
-rises_stop k a n us u lt eu ea le =
-    let rest = map frames_of (drop (n + 1) us) in
-    ap (λ b. b && ascends (frames_of u ∷ rest)) (sym (lt-leb k (key (frames_of u)) (omega arith)))
-    ∙ ap (rises k) (sym (told_more frames_of us n u lt eu))
-
-pub rises_all : (k n : ℕ) (us : List Task) → length us ≤ n → true ≡ rises k (map frames_of (drop n us))
-rises_all k n us le = ap (rises k) (sym (told_all frames_of us n le))
+pub adjacent : (us : List Task) (r : Bool) → IsAllAdjacentAnswer (λ x y b. b ≡ is_some_and is_le (Some (nat_cmp (key (frames_of x)) (key (frames_of y))))) us r → r ≡ ascends (map frames_of us)
+adjacent us true h = each_pair us (λ k d l. h k d l ∙ as_leb _ _)
+adjacent us false h = some_pair us h.0 h.1 (λ d. h.2 d ∙ as_leb _ _)

@@ -1,6 +1,6 @@
 -- The pending tasks of a buffer, and the order that they are kept in.
-use Rattle.std.proofs.Common.{◌≡◌, ℕ, suc, ◌+◌, ◌<◌, ◌≤◌, Bool, true, false, cond, leb, ltb, max, get_or, ⊎_elim, List, [], ◌∷◌, ◌++◌, map, length, take, drop, sym, refl, ap, ◌∙◌, arith}
-use Rattle.std.specs.List.{take_while}
+use Rattle.std.proofs.Common.{◌≡◌, ℕ, suc, ◌+◌, Bool, true, false, cond, leb, ltb, max, ⊎_elim, List, [], ◌∷◌, ◌++◌, map, length, take, drop, sym, refl, ap, ◌∙◌, arith}
+use Rattle.std.specs.List.{take_while, fold}
 use Rattle.std.specs.List as std
 use Rattle.std.proofs.lemmas.List.{map-append, take-map, drop-map}
 use Rattle.std.proofs.lemmas.List.Sums.{take_while-cons}
@@ -10,7 +10,6 @@ use Rattle.configuration.specs.Layout.{key, insert, before_if}
 use Rattle.configuration.specs.Meaning.{Task, frames_of}
 use Rattle.configuration.specs.Ops.{rank, none_if}
 use Rattle.configuration.specs.Tasks.{top, task_level, without}
-use Rattle.configuration.proofs.CheckAll.{told_more, told_all}
 
 -- How many stand before the first one whose key is not smaller.
 chosen : (v k n : ℕ) (t : Task) (ws : List Task) → length ws ≡ n → length (cond (ltb v k) (t ∷ ws) []) ≡ none_if (leb k v) n
@@ -20,24 +19,21 @@ chosen v k n t ws e =
     (λ h. rw (le-ltb v k h, le-leb k v h) refl)
     (cases_lt v k)
 
-pub ranked : (k : ℕ) (ts : List Task) → length (take_while (λ u. ltb (key (frames_of u)) k) ts) ≡ rank k (map frames_of ts)
+ranked : (k : ℕ) (ts : List Task) → length (take_while (λ u. ltb (key (frames_of u)) k) ts) ≡ rank k (map frames_of ts)
 unfolding rank
 ranked k [] = refl
 ranked k (t ∷ ts) =
     let smaller : Task → Bool = λ u. ltb (key (frames_of u)) k in
     ap length (take_while-cons smaller t ts) ∙ chosen (key (frames_of t)) k (rank k (map frames_of ts)) t (take_while smaller ts) (ranked k ts)
 
--- The highest level, one task on, and at the end.
-pub top_more : (ts : List Task) (i : ℕ) (u : Task) (h v w all : ℕ) → i < length ts → u ≡ get_or ts i u → v ≡ task_level (frames_of u) → w ≡ max v h → max h (top (map frames_of (drop i ts))) ≡ all → max w (top (map frames_of (drop (i + 1) ts))) ≡ all
+-- The highest level, told from the first task on.
+top_from : (ts : List Task) (h : ℕ) → fold (λ w u. max w (task_level (frames_of u))) h ts ≡ max h (top (map frames_of ts))
 unfolding top
-top_more ts i u h v w all lt eu e m inv =
-    let s : top (map frames_of (drop i ts)) ≡ max (task_level (frames_of u)) (top (map frames_of (drop (i + 1) ts))) = ap top (told_more frames_of ts i u lt eu) in
-    omega (arith, s, e, m, inv)
+top_from [] h = omega arith
+top_from (t ∷ ts) h = omega (arith, top_from ts (max h (task_level (frames_of t))))
 
-pub top_end : (ts : List Task) (i h all : ℕ) → length ts ≤ i → max h (top (map frames_of (drop i ts))) ≡ all → h ≡ all
-unfolding top
-top_end ts i h all le inv =
-    let s : top (map frames_of (drop i ts)) ≡ 0 = ap top (told_all frames_of ts i le) in omega (arith, s, inv)
+pub top_told : (ts : List Task) → fold (λ w u. max w (task_level (frames_of u))) 0 ts ≡ top (map frames_of ts)
+top_told ts = omega (arith, top_from ts 0)
 
 -- A task goes in behind so many.
 before : (b : Bool) (t u : Pending) (us rest : List Pending) (r : ℕ) → rest ≡ take r us ++ t ∷ drop r us → before_if b t u us rest ≡ take (none_if b r) (u ∷ us) ++ t ∷ drop (none_if b r) (u ∷ us)
@@ -57,8 +53,8 @@ put_in ts a k u q r =
     let i = insert_rank (frames_of u) us in
     map-append frames_of (take a ts) (u ∷ drop a ts) ∙ sym (rw (w, take-map frames_of a ts, drop-map frames_of a ts) at i)
 
-pub tasks_put_in : (b : Bool) (ts ns : List Task) (a k : ℕ) (u : Task) → k ≡ key (frames_of u) → a ≡ rank k (map frames_of ts) → ns ≡ cond b (std.insert ts a u) ts → map frames_of ns ≡ cond b (insert (frames_of u) (map frames_of ts)) (map frames_of ts)
-tasks_put_in true ts ns a k u q r e = ap (map frames_of) e ∙ put_in ts a k u q r
+pub tasks_put_in : (b : Bool) (ts ns : List Task) (a k : ℕ) (u : Task) → k ≡ key (frames_of u) → a ≡ length (take_while (λ u. ltb (key (frames_of u)) k) ts) → ns ≡ cond b (std.insert ts a u) ts → map frames_of ns ≡ cond b (insert (frames_of u) (map frames_of ts)) (map frames_of ts)
+tasks_put_in true ts ns a k u q r e = ap (map frames_of) e ∙ put_in ts a k u q (r ∙ ranked k ts)
 tasks_put_in false ts ns a k u q r e = ap (map frames_of) e
 
 pub tasks_cut : (ts : List Task) (i : ℕ) → map frames_of (std.remove ts i) ≡ without i (map frames_of ts)

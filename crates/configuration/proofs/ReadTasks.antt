@@ -1,6 +1,6 @@
 -- Tasks read one after another: what was read and what the rest tells are together what all the bytes tell.
-use Rattle.std.proofs.Common.{◌≡◌, ℕ, zero, suc, ◌-◌, ◌<◌, ◌≤◌, eqb, List, [], ◌∷◌, ◌++◌, map, reverse, length, get_or, sym, refl, ap, ◌∙◌, append_assoc, append-nil, arith}
-use Rattle.std.proofs.lemmas.List.{map_push, drop_at}
+use Rattle.std.proofs.Common.{◌≡◌, ℕ, zero, suc, ◌-◌, ◌*◌, ◌<◌, ◌≤◌, eqb, List, [], ◌∷◌, ◌++◌, map, reverse, length, take, drop, get_or, sym, refl, ap, ◌∙◌, append_assoc, append-nil, arith}
+use Rattle.std.proofs.lemmas.List.{map_push, drop_at, drop-append-le, length-drop, take-append-drop}
 use Rattle.std.proofs.lemmas.Bool.{eq-eqb, ne_eqb}
 use Rattle.configuration.specs.Config.{Pending}
 use Rattle.configuration.specs.Reading.{unless, unslots, task_from, untasks}
@@ -25,6 +25,23 @@ none_left : (k : ℕ) (s r : List ℕ) → length s ≡ 9 → get_or s 0 0 ≡ 0
 unfolding untasks
 none_left zero s r h z = refl
 none_left (suc k) s r h z = opened k s r h ∙ ap (λ b. unless b (reverse (unslots 3 s)) (untasks k r)) (eq-eqb (get_or s 0 0) 0 z)
+
+-- The bytes of the first tasks alone tell as many tasks, and so it is with frames.
+untasks_front : (n : ℕ) (s r : List ℕ) → 9 * n ≤ length s → untasks n (s ++ r) ≡ untasks n s
+unfolding untasks task_from
+untasks_front zero s r h = refl
+untasks_front (suc n) s r h =
+    let a = first_byte s r (omega (arith, h)) in
+    let b = unslots_front 3 s r (omega (arith, h)) in
+    let d = drop-append-le 9 s r (omega (arith, h)) in
+    let e = untasks_front n (drop 9 s) r (omega (arith, h, length-drop 9 s)) in
+    rw (a, b, d, e) refl
+
+pub untasks_taken : (n k : ℕ) (bs : List ℕ) → 9 * n ≤ length (take k bs) → untasks n (take k bs) ≡ untasks n bs
+untasks_taken n k bs h = sym (untasks_front n (take k bs) (drop k bs) h) ∙ ap (untasks n) (take-append-drop k bs)
+
+pub unslots_taken : (n k : ℕ) (bs : List ℕ) → 3 * n ≤ length (take k bs) → unslots n (take k bs) ≡ unslots n bs
+unslots_taken n k bs h = sym (unslots_front n (take k bs) (drop k bs) h) ∙ ap (unslots n) (take-append-drop k bs)
 
 -- One task more.
 pub task_more : (m : ℕ) (us vs : List Task) (u : Task) (bs s r : List ℕ) (all : List Pending) → length us < m → length s ≡ 9 → bs ≡ s ++ r → (get_or s 0 0 ≡ 0 → ⊥) → frames_of u ≡ reverse (unslots 3 s) → vs ≡ us ++ u ∷ [] → map frames_of us ++ untasks (m - length us) bs ≡ all → map frames_of vs ++ untasks (m - length vs) r ≡ all

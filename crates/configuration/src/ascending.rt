@@ -9,13 +9,5 @@ use crate::task::Task;
 pub(crate) fn ascending(tasks: &[Task]) -> bool
     ensures { result ≡ ascends (map frames_of tasks.now) }
 {
-    let mut last = 0;
-    for task in tasks {
-        let key = task.key();
-        if key < last {
-            return false;
-        }
-        last = key;
-    }
-    true
+    tasks.is_sorted_by_key(|task| task.key())
 }

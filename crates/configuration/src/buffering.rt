@@ -5,7 +5,7 @@ ghost use Rattle.fixed.specs.Fixed.{listed};
 ghost use Rattle.configuration.specs.Config.{no_buffer};
 ghost use Rattle.configuration.specs.Layout.{key};
 ghost use Rattle.configuration.specs.Meaning.{frames_of, state_of, tasks_of};
-ghost use Rattle.configuration.specs.Ops.{rank, told_task};
+ghost use Rattle.configuration.specs.Ops.{told_task};
 ghost use Rattle.configuration.specs.Tasks.{top};
 
 use crate::buffer::Buffer;
@@ -56,16 +56,14 @@ impl Buffer {
     pub fn top(&self) -> u8
         ensures { result ≡ top (tasks_of self.now) }
     {
-        let tasks = self.tasks.as_slice();
-        let mut highest = 0;
-        for task in tasks {
-            highest = task.level().max(highest);
-        }
-        highest
+        self.tasks
+            .as_slice()
+            .iter()
+            .fold(0, |highest: u8, task| highest.max(task.level()))
     }
 
-    // How many pending tasks from the first one on have a smaller key.
-    fn smaller(&self, least: u128) -> usize
+    // How many pending tasks stand before the first one whose key is not smaller.
+    pub(crate) fn rank(&self, least: u128) -> usize
         ensures { result ≡ length (take_while (λ u. nat_lt (key (frames_of u)) least) (listed self.now.tasks)) }
     {
         self.tasks
@@ -73,12 +71,5 @@ impl Buffer {
             .iter()
             .take_while(|task| task.key() < least)
             .count()
-    }
-
-    // How many pending tasks stand before the first one whose key is not smaller.
-    pub(crate) fn rank(&self, least: u128) -> usize
-        ensures { result ≡ rank least (tasks_of self.now) }
-    {
-        self.smaller(least)
     }
 }

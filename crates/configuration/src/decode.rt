@@ -11,7 +11,8 @@ use crate::read_buffers::read_buffers;
 use program::program::Program;
 
 impl Configuration {
-    // The configuration that a line of the program's width tells, lawful or not.
+    // The configuration that a line of the program's width tells, lawful or not. (The width is tested once, in `read`
+    // and in `write`.)
     pub(crate) fn decode(program: &Program, line: &[u8]) -> Configuration
         requires { length line.now ≡ width (told program.now) }
         ensures { config_of (told program.now) result ≡ decoded (told program.now) line.now }

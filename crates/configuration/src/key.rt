@@ -5,6 +5,7 @@ ghost use Rattle.configuration.specs.Meaning.{frames_of};
 ghost use Rattle.configuration.specs.Ops.{number_of};
 
 use crate::frame::Frame;
+use crate::slot::slot;
 use crate::task::Task;
 
 // One more than the greatest number of three bytes.
@@ -15,17 +16,13 @@ fn number(frame: Option<Frame>) -> u32
     ensures told { result ≡ number_of frame }
     ensures small { result < 16777216 }
 {
-    match frame {
-        Some(frame) => {
-            let place = u32::from(frame.place.saturating_add(1));
-            (place * 256 + u32::from(frame.l)) * 256 + u32::from(frame.level)
-        }
-        None => 0,
-    }
+    let [place, l, level] = slot(frame);
+    u32::from_be_bytes([0, place, l, level])
 }
 
 impl Task {
-    // The nine bytes of the task as one number, the first byte highest.
+    // The nine bytes of the task as one number, the first byte highest: a number, since the order of numbers has all
+    // laws.
     #[tactic(auto, using(crate::proofs::CheckKey::key_is))]
     pub fn key(&self) -> u128
         ensures { result ≡ key (frames_of self.now) }

@@ -11,7 +11,8 @@ use crate::configuration::Configuration;
 use crate::task::Task;
 use program::program::Program;
 
-// Each task is lawful. (A chain within a longer condition was tried: its result is found only as a whole function's.)
+// Each task is lawful. (A function of its own, since of a chain within a longer condition a proof does not find the
+// result.)
 fn lawful_tasks(program: &Program, tasks: &[Task]) -> bool
     ensures { result ≡ list_all (λ u. lawful_task (told program.now) (frames_of u)) tasks.now }
 {

@@ -25,10 +25,7 @@ fn ranged(program: &Program, frame: &Frame) -> bool
 fn calls(program: &Program, place: u8) -> bool
     ensures { result ≡ is_call (statement_at (told program.now) place) }
 {
-    match program.statement(place) {
-        Statement::Call { .. } => true,
-        _ => false,
-    }
+    matches!(program.statement(place), Statement::Call { .. })
 }
 
 // In a stack, `below` may stand right under `above`.
@@ -58,8 +55,8 @@ impl<const N: usize> Frames<N> {
     }
 }
 
-// Each frame may stand in a stack right under the next one. (One function that takes the test as a closure was tried
-// for this and the next: of a chain whose closure calls a parameter the search does not find the result.)
+// Each frame may stand in a stack right under the next one. (A function of its own beside the next, since of a chain
+// whose closure calls a closure a proof does not find the result.)
 fn all_rest(program: &Program, frames: &[Frame]) -> bool
     ensures { result ≡ list_all (λ p. rests_on (told program.now) p.1 p.0) (zip frames.now (drop 1 frames.now)) }
 {

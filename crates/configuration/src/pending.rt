@@ -12,7 +12,6 @@ use fixed::full::Full;
 
 impl Buffer {
     // Makes a task pending, before the first one that is not smaller by its nine bytes, unless there are 6.
-    #[tactic(auto, using(crate::proofs::Pendings::tasks_put_in))]
     pub fn add(&mut self, u: Task) -> Result<(), Full>
         ensures told { is_ok result ≡ nat_lt (length (tasks_of self.old)) 6 }
         ensures after { tasks_of self.new ≡ (if is_ok result then insert (frames_of u) (tasks_of self.old) else tasks_of self.old) }

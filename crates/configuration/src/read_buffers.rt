@@ -9,9 +9,9 @@ use crate::stack::Stack;
 use crate::task::Task;
 use fixed::fixed_vec::FixedVec;
 
-// Reads tasks up to the first zero place.
+// Reads tasks up to the first zero place, as `Frames::read` reads frames, but of nine bytes each.
 fn read_tasks(bytes: &[u8]) -> FixedVec<Task, 6>
-    requires { 54 ≤ length bytes.now }
+    requires { length bytes.now ≡ 54 }
     ensures { map frames_of (listed result) ≡ untasks 6 bytes.now }
 {
     let mut tasks = FixedVec::new(Task::empty());
@@ -19,22 +19,21 @@ fn read_tasks(bytes: &[u8]) -> FixedVec<Task, 6>
         if nine[0] == 0 {
             return tasks;
         }
-        if tasks.push(Task::read(nine)).is_err() {
-            return tasks;
-        }
+        tasks.push(Task::read(nine)).unwrap();
     }
     tasks
 }
 
 impl Buffer {
-    // The buffer that the first 78 bytes tell.
+    // The buffer that the first 78 bytes tell. (A slice, since a part of a line is no array, and longer, since the
+    // bytes of further buffers may follow.)
     pub(crate) fn read(bytes: &[u8]) -> Buffer
         requires { 78 ≤ length bytes.now }
         ensures { state_of result ≡ buffer_from bytes.now }
     {
         Buffer {
-            stack: Stack::read(bytes),
-            tasks: read_tasks(&bytes[24..]),
+            stack: Stack::read(&bytes[..24]),
+            tasks: read_tasks(&bytes[24..78]),
         }
     }
 }

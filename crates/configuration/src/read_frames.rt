@@ -1,16 +1,17 @@
 // Frames as their bytes tell them.
-ghost use Rattle.std.specs.Prelude.{◌≡◌, ◌*◌, ◌≤◌, reverse, length};
+ghost use Rattle.std.specs.Prelude.{◌≡◌, ◌*◌, reverse, length};
 ghost use Rattle.configuration.specs.Reading.{unslots};
 ghost use Rattle.configuration.specs.Meaning.{frames_on};
 
 use crate::frame::Frame;
 use crate::frames::Frames;
+use crate::slot::frame_of;
 use fixed::fixed_vec::FixedVec;
 
 impl<const N: usize> Frames<N> {
     // Reads frames, the lowest first, up to the first zero place.
     pub(crate) fn read(bytes: &[u8]) -> Self
-        requires { 3 * N ≤ length bytes.now }
+        requires { length bytes.now ≡ 3 * N }
         ensures { frames_on result ≡ reverse (unslots N bytes.now) }
     {
         let mut frames = FixedVec::new(Frame::default());
@@ -18,14 +19,7 @@ impl<const N: usize> Frames<N> {
             if slot[0] == 0 {
                 return Frames { frames };
             }
-            let frame = Frame {
-                place: slot[0] - 1,
-                l: slot[1],
-                level: slot[2],
-            };
-            if frames.push(frame).is_err() {
-                return Frames { frames };
-            }
+            frames.push(frame_of(slot)).unwrap();
         }
         Frames { frames }
     }

@@ -21,17 +21,8 @@ pub fn line_width(program: &Program) -> usize
 
 impl Configuration {
     // The configuration that a line tells, if the line is lawful.
-    pub fn read(program: &Program, line: &[u8]) -> Option<Configuration>
-        ensures { MatchOption result (told_by (told program.now) line.now ≡ None) (λ c. told_by (told program.now) line.now ≡ Some (config_of (told program.now) c)) }
-    {
-        let mut work = [0; 256];
-        Configuration::read_over(program, line, &mut work)
-    }
-
-    // The same, with room to write the line again: what stands behind an unused place is not read, and has to be zero.
     #[tactic(auto, using(crate::proofs::CheckLine::told_narrow, crate::proofs::CheckLine::told_lawless, crate::proofs::CheckLine::told_other, crate::proofs::CheckLine::told_lawful))]
-    fn read_over(program: &Program, line: &[u8], work: &mut [u8]) -> Option<Configuration>
-        requires { length work.old ≡ 256 }
+    pub fn read(program: &Program, line: &[u8]) -> Option<Configuration>
         ensures { MatchOption result (told_by (told program.now) line.now ≡ None) (λ c. told_by (told program.now) line.now ≡ Some (config_of (told program.now) c)) }
     {
         if line.len() != line_width(program) {
@@ -41,18 +32,19 @@ impl Configuration {
         if !configuration.lawful(program) {
             return None;
         }
-        if !configuration.writes(program, line, work) {
+        if !configuration.writes(program, line) {
             return None;
         }
         Some(configuration)
     }
 
-    // The line is what is written of the configuration.
-    fn writes(&self, program: &Program, line: &[u8], work: &mut [u8]) -> bool
-        requires wide { length line.now ≡ width (told program.now) }
-        requires room { length work.old ≡ 256 }
+    // The line is what is written of the configuration: what stands behind an unused place is not read, and has to be
+    // zero. (No call allocates, and no line is longer than 243.)
+    fn writes(&self, program: &Program, line: &[u8]) -> bool
+        requires { length line.now ≡ width (told program.now) }
         ensures { result ≡ bytes_eq (written (config_of (told program.now) self.now)) line.now }
     {
+        let mut work = [0; 243];
         let wide = line_width(program);
         self.encode(program, &mut work[0..wide]);
         &work[0..wide] == line

@@ -20,6 +20,7 @@ impl Configuration {
         Configuration {
             active: 0,
             globals: start_values(program.start()),
+            // three calls, shorter than a closure's clause
             buffers: [begun(mains, 0), begun(mains, 1), begun(mains, 2)],
         }
     }
@@ -27,30 +28,27 @@ impl Configuration {
 
 // The start values, with zeros behind them.
 fn start_values(values: &[u8]) -> [u8; 8]
-    ensures { length values.now ≤ 8 → take (length values.now) result ≡ values.now }
+    requires { length values.now ≤ 8 }
+    ensures { take (length values.now) result ≡ values.now }
 {
     let mut globals = [0; 8];
-    if values.len() <= 8 {
-        globals[0..values.len()].copy_from_slice(values);
-    }
+    globals[0..values.len()].copy_from_slice(values);
     globals
 }
 
 // The buffer of a number, in which its main is pending; past the last one an empty buffer.
+#[tactic(auto, unfolding(crate::specs::Layout::insert))]
 fn begun(mains: &[u8], number: usize) -> Buffer
     ensures { number < length mains.now → state_of result ≡ start_buffer (slice_index mains.now number) }
 {
-    if number >= mains.len() {
-        return Buffer::empty();
-    }
     let mut buffer = Buffer::empty();
-    buffer
-        .tasks
-        .push(Task::of(Frame {
-            place: mains[number],
+    if let Some(place) = mains.get(number).copied() {
+        let main = Frame {
+            place,
             l: 0,
             level: 0,
-        }))
-        .unwrap();
+        };
+        buffer.add(Task::of(main)).unwrap();
+    }
     buffer
 }

@@ -1,4 +1,4 @@
-// Buffers as bytes.
+// Buffers as bytes, part by part by index, since of what `chunks_exact_mut` lent a proof knows only the length.
 ghost use Rattle.std.specs.Prelude.{◌≡◌, ◌*◌, ◌≤◌, map, length};
 ghost use Rattle.configuration.specs.Layout.{task_slots, buffer_bytes, all_bytes};
 ghost use Rattle.configuration.specs.Meaning.{state_of, tasks_of};
@@ -7,7 +7,7 @@ use crate::buffer::Buffer;
 use crate::task::Task;
 
 impl Buffer {
-    // Writes the buffer into 78 bytes.
+    // Writes the buffer into 78 bytes. (A slice, since a part of a line is no array.)
     #[tactic(auto, using(crate::proofs::WriteBuffers::buffer_put))]
     pub(crate) fn write(&self, out: &mut [u8])
         requires { length out.old ≡ 78 }
@@ -22,7 +22,6 @@ impl Buffer {
         requires { length out.old ≡ 54 }
         ensures { out.new ≡ task_slots 6 (tasks_of self.now) }
     {
-        // by index, since once parts that are lent as mutable come back, a proof knows only the slice's length
         for n in 0..6 {
             let task = self.tasks.get(n).unwrap_or(Task::empty());
             task.write(&mut out[9 * n..9 * n + 9]);
@@ -36,7 +35,6 @@ pub(crate) fn write_buffers(buffers: &[Buffer], out: &mut [u8])
     requires long { length out.old ≡ 78 * length buffers.now }
     ensures { out.new ≡ all_bytes (map state_of buffers.now) }
 {
-    // by index, since once parts that are lent as mutable come back, a proof knows only the slice's length
     for n in 0..buffers.len() {
         buffers[n].write(&mut out[78 * n..78 * n + 78]);
     }

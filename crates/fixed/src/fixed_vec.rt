@@ -3,7 +3,8 @@ ghost use Rattle.std.specs.Prelude.{◌≡◌, ◌+◌, ◌-◌, ◌<◌, ◌≤
 use crate::full::Full;
 use std::alloc::AllocError;
 
-// A list of at most N items that lies in the value itself: it never allocates, and it is Copy where its items are.
+// A list of at most N items that lies in the value itself: it never allocates, and it is Copy where its items are, as
+// the library's `ArrayVec` is not.
 // The places past its length hold whatever stood there before, and no call tells what.
 pub struct FixedVec<T, const N: usize> {
     items: [T; N],
@@ -11,6 +12,7 @@ pub struct FixedVec<T, const N: usize> {
     ghost fits: { len ≤ N },
 }
 
+// By hand, since a derived one would clone wherever T does, and beside a ghost field only what is Copy is cloned.
 impl<T: Copy, const N: usize> Clone for FixedVec<T, N> {
     ghost is_clone = { λ x y. y ≡ x };
 

@@ -1,10 +1,12 @@
-use Rattle.configuration.proofs.Pendings.{top_more, top_end}
+use Rattle.std.proofs.Common.{◌≡◌, ◌∙◌, max, rules}
+use Rattle.std.specs.List.{fold}
+use Rattle.fixed.specs.Fixed.{listed}
+use Rattle.configuration.specs.Meaning.{frames_of}
+use Rattle.configuration.specs.Tasks.{task_level}
+use Rattle.configuration.proofs.Pendings.{top_told}
 use Rattle.configuration.proofs.buffer.Buffer.top.Goals as goal
-
-pub loop-task-preserved : goal.loop-task-preserved
-loop-task-preserved c =
-    top_more c.as_slice-tasks.result.now c.loop-task.task-index c.task-item.result c.loop-task.highest c.level.result c.max-highest.result _ c.loop-task-test.true c.task-item.is c.level.ensures c.max-highest.ensures c.loop-task.invariant
 
 pub returns : goal.returns
 returns c =
-    top_end c.as_slice-tasks.result.now c.loop-task.task-index c.loop-task.highest _ c.loop-task-test.false c.loop-task.invariant
+    let e : c.fold.result ≡ fold (λ w u. max w (task_level (frames_of u))) 0 (listed c.args.self.now.tasks) = search rules in
+    e ∙ top_told (listed c.args.self.now.tasks)
