@@ -1,13 +1,9 @@
 -- Tasks whose keys each are no greater than the next one's ascend.
-use Rattle.std.proofs.Common.{◌≡◌, ℕ, zero, suc, ◌+◌, ◌<◌, Bool, true, false, ◌&&◌, leb, Some, List, [], ◌∷◌, map, length, get_or, refl, ap, ap₂, ◌∙◌, arith, tests}
+use Rattle.std.proofs.Common.{◌≡◌, ℕ, zero, suc, ◌+◌, ◌<◌, Bool, true, false, ◌&&◌, leb, List, [], ◌∷◌, map, length, get_or, refl, ap, ap₂, arith}
 use Rattle.std.specs.List.{IsAllAdjacentAnswer}
-use Rattle.std.specs.Ordering.{nat_cmp, is_le, is_some_and}
 use Rattle.configuration.specs.Layout.{key}
 use Rattle.configuration.specs.Tests.{ascends}
 use Rattle.configuration.specs.Meaning.{Task, frames_of}
-
-as_leb : (m n : ℕ) → is_some_and is_le (Some (nat_cmp m n)) ≡ leb m n
-as_leb m n = grind (arith, tests)
 
 each_pair : (us : List Task) → ((k : ℕ) (d : Task) → k + 1 < length us → true ≡ leb (key (frames_of (get_or us k d))) (key (frames_of (get_or us (k + 1) d)))) → true ≡ ascends (map frames_of us)
 unfolding ascends
@@ -26,6 +22,6 @@ some_pair (u ∷ []) k l h = absurd (omega arith)
 some_pair (u ∷ v ∷ us) zero l h = ap (λ b. b && ascends (frames_of v ∷ map frames_of us)) (h u)
 some_pair (u ∷ v ∷ us) (suc k) l h = later (leb (key (frames_of u)) (key (frames_of v))) _ (some_pair (v ∷ us) k (omega arith) (λ d. let e : suc k + 1 ≡ suc (k + 1) = omega arith in rw e at (h d)))
 
-pub adjacent : (us : List Task) (r : Bool) → IsAllAdjacentAnswer (λ x y b. b ≡ is_some_and is_le (Some (nat_cmp (key (frames_of x)) (key (frames_of y))))) us r → r ≡ ascends (map frames_of us)
-adjacent us true h = each_pair us (λ k d l. h k d l ∙ as_leb _ _)
-adjacent us false h = some_pair us h.0 h.1 (λ d. h.2 d ∙ as_leb _ _)
+pub adjacent : (us : List Task) (r : Bool) → IsAllAdjacentAnswer (λ x y b. b ≡ leb (key (frames_of x)) (key (frames_of y))) us r → r ≡ ascends (map frames_of us)
+adjacent us true h = each_pair us h
+adjacent us false h = some_pair us h.0 h.1 h.2

@@ -9,5 +9,5 @@ use crate::task::Task;
 pub(crate) fn ascending(tasks: &[Task]) -> bool
     ensures { result ≡ ascends (map frames_of tasks.now) }
 {
-    tasks.is_sorted_by_key(|task| task.key())
+    tasks.is_sorted_by(|a, b| a.key() <= b.key())
 }

@@ -1,4 +1,4 @@
-use Rattle.std.proofs.Common.{rules}
+use Rattle.std.proofs.Common.{leb, rules, tests}
 use Rattle.std.proofs.lemmas.List.Sorted.{answers_always}
 use Rattle.configuration.specs.Layout.{key}
 use Rattle.configuration.specs.Meaning.{frames_of}
@@ -7,5 +7,5 @@ use Rattle.configuration.proofs.ascending.ascending.Goals as goal
 
 pub returns : goal.returns
 returns c =
-    let answer = c.is_sorted_by_key.ensures.cases (λ u. key (frames_of u)) (answers_always _ _ _ (λ f a r g called. search rules)) in
-    adjacent c.args.tasks.now c.is_sorted_by_key.result answer
+    let answer = c.is_sorted_by.ensures.cases (λ u v. leb (key (frames_of u)) (key (frames_of v))) (answers_always _ _ _ (λ f a r g called. search (rules, tests))) in
+    adjacent c.args.tasks.now c.is_sorted_by.result answer
