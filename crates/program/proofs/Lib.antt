@@ -1,3 +1,4 @@
 mod Deeper
 mod Firsts
 mod Flawless
+mod Words

@@ -42,7 +42,7 @@ fn asked(rt: &HostRuntime) -> anyhow::Result<u32> {
 
 fn run(rt: &HostRuntime) -> anyhow::Result<()> {
     let calls = asked(rt)?;
-    let program = bumps(rt.alloc(), 3)?;
+    let program = bumps(rt.alloc(), 3).map_err(|_| anyhow!("the program is not made"))?;
     let machine = ProgramMachine::new(program);
     let sum = walk(&machine, calls, [0u8; 80]);
     println!(rt; "{calls} step calls, checksum {sum}")?;
