@@ -1,12 +1,12 @@
 -- Buffers written one after another.
-use Rattle.std.proofs.Common.{◌≡◌, ℕ, ◌+◌, ◌*◌, ◌<◌, ◌≤◌, List, [], ◌∷◌, ◌++◌, map, reverse, length, get_or, take, drop, sym, ap, ◌∙◌, append-nil, arith, length-append, length-drop}
+use Rattle.std.proofs.Common.{◌≡◌, ℕ, ◌+◌, ◌*◌, ◌<◌, ◌≤◌, List, [], ◌∷◌, ◌++◌, map, reverse, length, get_or, take, drop, sym, ap, ◌∙◌, append_assoc, append-nil, arith, length-append, length-drop}
 use borrow.Rule.Slice.PartMut.{put_mid}
 use Rattle.std.proofs.lemmas.List.{take_all, take_at, drop_more, drop_all}
+use Rattle.std.proofs.lemmas.Slice.{take-put_mid}
 use Rattle.configuration.specs.declared.buffer.Buffer.{Buffer}
 use Rattle.configuration.specs.Layout.{slots, task_slots, buffer_bytes, all_bytes}
 use Rattle.configuration.specs.Meaning.{frames_on, tasks_of, state_of}
 use Rattle.configuration.specs.Bytes.{slots_long}
-use Rattle.configuration.proofs.WriteFrames.{part_more}
 
 -- Two parts that fill the room.
 two_put : (x k : ℕ) (o a b : List ℕ) → length a ≡ x → length o ≤ x + k → put_mid x k (a ++ drop x o) b ≡ a ++ b
@@ -21,6 +21,12 @@ unfolding buffer_bytes
 buffer_put x o a b eo e f =
     two_put 24 54 o a b (ap length e ∙ slots_long 8 (reverse (frames_on x.stack))) (omega arith)
     ∙ (ap (λ y. y ++ b) e ∙ ap (λ y. slots 8 (reverse (frames_on x.stack)) ++ y) f)
+
+-- One part more: w is its bytes, s those of the parts behind it.
+pub part_more : (z n k : ℕ) (o w s rest : List ℕ) → k ≡ z → length w ≡ z → z * n + z ≤ length o → z * (n + 1) ≡ z * n + z → take (z * n) o ++ (w ++ s) ≡ rest → take (z * (n + 1)) (put_mid (z * n) k o w) ++ s ≡ rest
+part_more z n k o w s rest ek ew le ez inv =
+    ap (λ x. x ++ s) (take-put_mid (z * n) k o w (z * (n + 1)) (omega arith) (omega arith))
+    ∙ (append_assoc (take (z * n) o) w s ∙ inv)
 
 -- One buffer more.
 pub buffer_next : (n k : ℕ) (xs : List Buffer) (x : Buffer) (o w rest : List ℕ) → n < length xs → length o ≡ 78 * length xs → k ≡ 78 → length w ≡ 78 → x ≡ get_or xs n x → w ≡ buffer_bytes (state_of x) → take (78 * n) o ++ all_bytes (map state_of (drop n xs)) ≡ rest → take (78 * (n + 1)) (put_mid (78 * n) k o w) ++ all_bytes (map state_of (drop (n + 1) xs)) ≡ rest

@@ -1,46 +1,39 @@
--- Frames written one after another: what was written and the bytes of the rest are together the bytes of all.
-use Rattle.std.proofs.Common.{◌≡◌, ℕ, zero, suc, ◌+◌, ◌-◌, ◌*◌, ◌<◌, ◌≤◌, List, [], ◌∷◌, ◌++◌, length, take, drop, Some, None, Option, sym, refl, ap, ◌∙◌, append_assoc, append-nil, add-one, arith}
+-- Frames written over zeros one after another: as many slots as frames were written are no more zeros.
+use Rattle.std.proofs.Common.{◌≡◌, ℕ, zero, suc, ◌+◌, ◌*◌, ◌<◌, ◌≤◌, List, [], ◌∷◌, ◌++◌, length, get_or, take, Some, refl, sym, ap, ◌∙◌, add-one, arith}
+use Rattle.std.proofs.Math.ListN.{replicate}
 use borrow.Rule.Slice.PartMut.{put_mid}
-use Rattle.std.specs.List.{slice_get}
 use Rattle.std.proofs.lemmas.List.{take_all}
-use Rattle.std.proofs.lemmas.Slice.{take-put_mid}
 use Rattle.configuration.specs.declared.frame.Frame.{Frame}
 use Rattle.configuration.specs.Layout.{slots}
 use Rattle.configuration.specs.Ops.{slot}
 
--- One part more: w is its bytes, s those of the parts behind it.
-pub part_more : (z n k : ℕ) (o w s rest : List ℕ) → k ≡ z → length w ≡ z → z * n + z ≤ length o → z * (n + 1) ≡ z * n + z → take (z * n) o ++ (w ++ s) ≡ rest → take (z * (n + 1)) (put_mid (z * n) k o w) ++ s ≡ rest
-part_more z n k o w s rest ek ew le ez inv =
-    ap (λ x. x ++ s) (take-put_mid (z * n) k o w (z * (n + 1)) (omega arith) (omega arith))
-    ∙ (append_assoc (take (z * n) o) w s ∙ inv)
-
--- The slots from a place on begin with the one at that place.
-slots_opened : (j n : ℕ) (xs : List Frame) → slots (suc j) (drop n xs) ≡ slot (slice_get xs n) ++ slots j (drop (suc n) xs)
+-- No frames are zeros.
+pub slots_none : (m k : ℕ) → k ≡ 3 * m → replicate k 0 ≡ slots m []
 unfolding slots
-slots_opened j zero [] = refl
-slots_opened j zero (x ∷ xs) = refl
-slots_opened j (suc n) [] = refl
-slots_opened j (suc n) (x ∷ xs) = slots_opened j n xs
+slots_none zero k e = ap (λ i. replicate i 0) e
+slots_none (suc m) k e =
+    let i : k ≡ suc (suc (suc (3 * m))) = omega arith in
+    ap (λ j. replicate j 0) i ∙ ap (λ xs. 0 ∷ 0 ∷ 0 ∷ xs) (slots_none m (3 * m) refl)
 
-slot_long : (o : Option Frame) → length (slot o) ≡ 3
-slot_long None = refl
-slot_long (Some f) = refl
-
--- One slot more.
-pub slot_put : (n m k : ℕ) (xs : List Frame) (o w rest : List ℕ) → n < m → length o ≡ 3 * m → k ≡ 3 → w ≡ slot (slice_get xs n) → take (3 * n) o ++ slots (m - n) (drop n xs) ≡ rest → take (3 * (n + 1)) (put_mid (3 * n) k o w) ++ slots (m - (n + 1)) (drop (n + 1) xs) ≡ rest
-slot_put n m k xs o w rest lt el ek e inv =
-    let j = m - (n + 1) in
-    let i : m - n ≡ suc j = omega arith in
-    let s = slots j (drop (n + 1) xs) in
-    let t : slots (suc j) (drop n xs) ≡ w ++ s =
-    slots_opened j n xs
-    ∙ (ap (λ x. slot (slice_get xs n) ++ slots j (drop x xs)) (sym (add-one n)) ∙ ap (λ x. x ++ s) (sym e)) in
-    part_more 3 n k o w s rest ek (ap length e ∙ slot_long (slice_get xs n)) (omega arith) (omega arith)
-    (ap (λ x. take (3 * n) o ++ x) (sym t) ∙ (ap (λ x. take (3 * n) o ++ slots x (drop n xs)) (sym i) ∙ inv))
-
-pub slots_all : (n m : ℕ) (xs : List Frame) (o rest : List ℕ) → m ≤ n → length o ≡ 3 * m → take (3 * n) o ++ slots (m - n) xs ≡ rest → o ≡ rest
+-- One slot more, at the place a.
+slot_over : (n a m : ℕ) (xs : List Frame) (f d : Frame) → a ≡ 3 * n → n < length xs → length xs ≤ m → f ≡ get_or xs n d → put_mid a 3 (slots m (take n xs)) (slot (Some f)) ≡ slots m (take (suc n) xs)
 unfolding slots
-slots_all n m xs o rest le el inv =
-    let i : m - n ≡ 0 = omega arith in
-    let t : take (3 * n) o ≡ o = take_all (3 * n) o (omega arith) in
-    sym t ∙ (sym (append-nil (take (3 * n) o)) ∙ (ap (λ x. take (3 * n) o ++ slots x xs) (sym i) ∙ inv))
+slot_over n a m [] f d e lt le is = absurd (omega arith)
+slot_over n a zero (x ∷ xs) f d e lt le is = absurd (omega arith)
+slot_over zero a (suc m) (x ∷ xs) f d e lt le is =
+    ap (λ i. put_mid i 3 (slots (suc m) []) (slot (Some f))) e ∙ ap (λ g. slot (Some g) ++ slots m []) is
+slot_over (suc n) a (suc m) (x ∷ xs) f d e lt le is =
+    let i : a ≡ suc (suc (suc (3 * n))) = omega arith in
+    ap (λ j. put_mid j 3 (slots (suc m) (x ∷ take n xs)) (slot (Some f))) i
+    ∙ ap (λ ys. slot (Some x) ++ ys) (slot_over n (3 * n) m xs f d refl (omega arith) (omega arith) is)
+
+pub slot_put : (n m k : ℕ) (xs : List Frame) (f d : Frame) (o w : List ℕ) → n < length xs → length xs ≤ m → k ≡ 3 → f ≡ get_or xs n d → w ≡ slot (Some f) → o ≡ slots m (take n xs) → put_mid (3 * n) k o w ≡ slots m (take (n + 1) xs)
+slot_put n m k xs f d o w lt le ek is e inv =
+    ap (λ i. put_mid (3 * n) i o w) ek
+    ∙ (ap (λ x. put_mid (3 * n) 3 x w) inv
+    ∙ (ap (λ x. put_mid (3 * n) 3 (slots m (take n xs)) x) e
+    ∙ (slot_over n (3 * n) m xs f d refl lt le is ∙ ap (λ i. slots m (take i xs)) (sym (add-one n)))))
+
+-- That was the last one.
+pub slots_all : (n m : ℕ) (xs : List Frame) (o : List ℕ) → length xs ≤ n → o ≡ slots m (take n xs) → o ≡ slots m xs
+slots_all n m xs o le inv = inv ∙ ap (slots m) (take_all n xs le)

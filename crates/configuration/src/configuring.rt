@@ -63,7 +63,7 @@ impl Configuration {
 fn buffer_in(buffers: &[Buffer], k: usize) -> Buffer
     ensures { state_of result ≡ slice_index_or (map state_of buffers.now) k no_buffer }
 {
-    buffers.get(k).copied().unwrap_or(Buffer::empty())
+    buffers.get(k).map_or_else(Buffer::empty, |buffer| *buffer)
 }
 
 // Puts a buffer at a place, unless that is past the end.

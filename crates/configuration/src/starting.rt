@@ -7,7 +7,9 @@ ghost use Rattle.configuration.specs.Start.{start_buffer, start_config};
 use crate::buffer::Buffer;
 use crate::configuration::Configuration;
 use crate::frame::Frame;
+use crate::stack::Stack;
 use crate::task::Task;
+use fixed::fixed_vec::FixedVec;
 use program::program::Program;
 
 impl Configuration {
@@ -37,18 +39,21 @@ fn start_values(values: &[u8]) -> [u8; 8]
 }
 
 // The buffer of a number, in which its main is pending; past the last one an empty buffer.
-#[tactic(auto, unfolding(crate::specs::Layout::insert))]
 fn begun(mains: &[u8], number: usize) -> Buffer
     ensures { number < length mains.now → state_of result ≡ start_buffer (slice_index mains.now number) }
 {
-    let mut buffer = Buffer::empty();
+    // built here, since `add` looks for the task's place among tasks that are not there
+    let mut tasks = FixedVec::new(Task::empty());
     if let Some(place) = mains.get(number).copied() {
         let main = Frame {
             place,
             l: 0,
             level: 0,
         };
-        buffer.add(Task::of(main)).unwrap();
+        tasks.push(Task::of(main)).unwrap();
     }
-    buffer
+    Buffer {
+        stack: Stack::empty(),
+        tasks,
+    }
 }

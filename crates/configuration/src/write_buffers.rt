@@ -4,7 +4,6 @@ ghost use Rattle.configuration.specs.Layout.{task_slots, buffer_bytes, all_bytes
 ghost use Rattle.configuration.specs.Meaning.{state_of, tasks_of};
 
 use crate::buffer::Buffer;
-use crate::task::Task;
 
 impl Buffer {
     // Writes the buffer into 78 bytes. (A slice, since a part of a line is no array.)
@@ -22,9 +21,10 @@ impl Buffer {
         requires { length out.old ≡ 54 }
         ensures { out.new ≡ task_slots 6 (tasks_of self.now) }
     {
-        for n in 0..6 {
-            let task = self.tasks.get(n).unwrap_or(Task::empty());
-            task.write(&mut out[9 * n..9 * n + 9]);
+        out.fill(0);
+        let tasks = self.tasks.as_slice();
+        for n in 0..tasks.len() {
+            tasks[n].write(&mut out[9 * n..9 * n + 9]);
         }
     }
 }

@@ -12,10 +12,12 @@ impl<const N: usize> Frames<N> {
         requires { length out.old ≡ 3 * N }
         ensures { out.new ≡ slots N (reverse (frames_on self.now)) }
     {
+        out.fill(0);
         // by index, since of what `chunks_exact_mut` lent a proof knows only the length
-        for n in 0..N {
+        let frames = self.frames.as_slice();
+        for n in 0..frames.len() {
             let at = 3 * n;
-            out[at..at + 3].copy_from_slice(&slot(self.frames.get(n)));
+            out[at..at + 3].copy_from_slice(&slot(Some(frames[n])));
         }
     }
 }
