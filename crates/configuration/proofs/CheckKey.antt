@@ -1,11 +1,10 @@
 -- The nine bytes of a task as a number.
-use Rattle.std.proofs.Common.{◌≡◌, ℕ, suc, ◌+◌, ◌*◌, Option, Some, None, List, [], ◌∷◌, reverse, drop, get_or, sym, refl, ap, ◌∙◌, arith}
+use Rattle.std.proofs.Common.{◌≡◌, ℕ, suc, ◌+◌, ◌*◌, List, [], ◌∷◌, reverse, drop, sym, refl, ap, ◌∙◌, arith}
 use Rattle.std.specs.List.{slice_get}
-use Rattle.std.specs.Int.{w32, from_be_bytes}
 use Rattle.std.proofs.lemmas.List.{reverse-reverse}
 use Rattle.configuration.specs.declared.frame.Frame.{Frame}
 use Rattle.configuration.specs.Layout.{mark, slots, nine, read_from, key}
-use Rattle.configuration.specs.Ops.{slot, number_of}
+use Rattle.configuration.specs.Ops.{number_of}
 
 -- One slot is read: a frame, or zeros.
 slot_read : (x k : ℕ) (xs : List Frame) → read_from x (slots (suc k) xs) ≡ read_from (x * 16777216 + number_of (slice_get xs 0)) (slots k (drop 1 xs))
@@ -15,11 +14,6 @@ slot_read x k [] =
 slot_read x k (f ∷ fs) =
     let e : ((x * 256 + mark f) * 256 + f.l) * 256 + f.level ≡ x * 16777216 + ((mark f * 256 + f.l) * 256 + f.level) = omega arith in
     ap (λ y. read_from y (slots k fs)) e
-
--- The three bytes of a slot as one number.
-pub slot_number : (o : Option Frame) (s : List ℕ) (n : ℕ) → s ≡ slot o → n ≡ from_be_bytes w32 (0 ∷ get_or s 0 0 ∷ get_or s 1 0 ∷ get_or s 2 0 ∷ []) → n ≡ number_of o
-slot_number None s n e i = let f = rw e at i in omega (arith, f)
-slot_number (Some f) s n e i = let j = rw e at i in omega (arith, j)
 
 second : (xs : List Frame) → slice_get (drop 1 xs) 0 ≡ slice_get xs 1
 second [] = refl

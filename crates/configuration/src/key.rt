@@ -17,7 +17,7 @@ fn number(frame: Option<Frame>) -> u32
     ensures small { result < 16777216 }
 {
     let [place, l, level] = slot(frame);
-    u32::from_be_bytes([0, place, l, level])
+    (u32::from(place) * 256 + u32::from(l)) * 256 + u32::from(level)
 }
 
 impl Task {

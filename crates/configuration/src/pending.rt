@@ -17,6 +17,9 @@ impl Buffer {
         ensures after { tasks_of self.new ≡ (if is_ok result then insert (frames_of u) (tasks_of self.old) else tasks_of self.old) }
         ensures kept { self.new.stack ≡ self.old.stack }
     {
+        if self.tasks.len() >= 6 {
+            return Err(Full);
+        }
         let at = self.rank(u.key());
         self.tasks.insert(at, u)
     }

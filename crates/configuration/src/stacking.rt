@@ -67,7 +67,9 @@ impl<const N: usize> Frames<N> {
     pub fn replace(&mut self, f: Frame)
         ensures { frames_on self.new ≡ replaced f (frames_on self.old) }
     {
-        let top = self.frames.len().saturating_sub(1);
-        self.frames.replace(top, f);
+        let depth = self.frames.len();
+        if depth > 0 {
+            self.frames.replace(depth - 1, f);
+        }
     }
 }

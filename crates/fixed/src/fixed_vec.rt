@@ -173,8 +173,9 @@ fn put<T: Copy>(items: &mut [T], count: usize, place: usize, item: T)
     requires { count < length items.old }
     ensures { take (count + 1) items.new ≡ insert (take count items.old) place item }
 {
-    items[count] = item;
-    items[place.min(count)..count + 1].rotate_right(1);
+    let place = place.min(count);
+    items.copy_within(place..count, place + 1);
+    items[place] = item;
 }
 
 // Leaves one of the first items out, those behind it one further to the front.
@@ -182,5 +183,5 @@ fn cut<T: Copy>(items: &mut [T], count: usize, place: usize)
     requires { (place < count) × (count ≤ length items.old) }
     ensures { take (count - 1) items.new ≡ remove (take count items.old) place }
 {
-    items[place..count].rotate_left(1);
+    items.copy_within(place + 1..count, place);
 }

@@ -8,7 +8,7 @@ use Rattle.configuration.proofs.frames.Frames.take_run.Goals as goal
 pub overflow_sub-base : goal.overflow_sub-base
 overflow_sub-base g c =
     let xs = listed c.args.self.now.frames in
-    omega (arith, run_le (reverse xs), length-reverse xs, c.run-count.ensures, c.len.ensures.many)
+    omega (arith, run_le (reverse xs), length-reverse xs, c.run-count.ensures.0, c.len.ensures.many)
 
 pub returns-clause-told : goal.returns-clause-told
 returns-clause-told g c =
@@ -17,7 +17,7 @@ returns-clause-told g c =
     let k = c.run-count.result in
     let base : c.len.result - k ≡ length xs - k = omega (arith, c.len.ensures.many) in
     let some : 0 < k = omega arith in
-    let deep : k ≤ length xs = omega (arith, run_le (reverse xs), length-reverse xs, c.run-count.ensures) in
+    let deep : k ≤ length xs = omega (arith, run_le (reverse xs), length-reverse xs, c.run-count.ensures.0) in
     let s = c.as_slice.result.now in
     let b = c.len.result - k in
     let own : listed us ≡ take (length s - b) (drop b s) = c.in-Ok.ensures in
@@ -25,7 +25,7 @@ returns-clause-told g c =
     let t : reverse (listed us) ≡ take k (reverse xs) = ap reverse (is ∙ ap (λ n. drop n xs) base) ∙ sym (take_last k xs deep) in
     let fits = us.fits in
     let le : k ≤ 3 = omega (arith, ap length is, length-take us.len us.items, length-drop (c.len.result - k) xs, c.len.ensures.many) in
-    leaves_some (reverse xs) (reverse (listed us)) k c.run-count.ensures some le t
+    leaves_some (reverse xs) (reverse (listed us)) k c.run-count.ensures.0 some le t
 
 pub returns-clause-after : goal.returns-clause-after
 returns-clause-after g c =
@@ -34,7 +34,7 @@ returns-clause-after g c =
     let k = c.run-count.result in
     let base : c.len.result - k ≡ length xs - k = omega (arith, c.len.ensures.many) in
     let some : 0 < k = omega arith in
-    let deep : k ≤ length xs = omega (arith, run_le (reverse xs), length-reverse xs, c.run-count.ensures) in
+    let deep : k ≤ length xs = omega (arith, run_le (reverse xs), length-reverse xs, c.run-count.ensures.0) in
     let s = c.as_slice.result.now in
     let b = c.len.result - k in
     let own : listed us ≡ take (length s - b) (drop b s) = c.in-Ok.ensures in
@@ -42,4 +42,4 @@ returns-clause-after g c =
     let fits = us.fits in
     let le : k ≤ 3 = omega (arith, ap length is, length-take us.len us.items, length-drop (c.len.result - k) xs, c.len.ensures.many) in
     let stays : listed c.truncate.new.self ≡ take (c.len.result - k) xs = c.truncate.ensures in
-    stays_some (reverse xs) (reverse (listed c.truncate.new.self)) k c.run-count.ensures some le (ap reverse (stays ∙ ap (λ n. take n xs) base) ∙ sym (drop_last k xs deep))
+    stays_some (reverse xs) (reverse (listed c.truncate.new.self)) k c.run-count.ensures.0 some le (ap reverse (stays ∙ ap (λ n. take n xs) base) ∙ sym (drop_last k xs deep))
