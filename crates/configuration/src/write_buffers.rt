@@ -22,6 +22,7 @@ impl Buffer {
         ensures { out.new ≡ task_slots 6 (tasks_of self.now) }
     {
         out.fill(0);
+        // by index, as `Frames::write`
         let tasks = self.tasks.as_slice();
         for n in 0..tasks.len() {
             tasks[n].write(&mut out[9 * n..9 * n + 9]);

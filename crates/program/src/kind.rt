@@ -99,7 +99,7 @@ impl Kind {
         ensures told { result ≡ kind_named word.now }
         ensures law { Named word.now }
     {
-        // a loop, since by `iter` and `find` a look-up took more than three times as long
+        // a loop, since by `iter` and `find` a look-up takes more than three times as long
         for kind in KINDS {
             if word == kind.name().as_bytes() {
                 return Some(kind);

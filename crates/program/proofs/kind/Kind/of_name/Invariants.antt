@@ -1,6 +1,5 @@
-use Rattle.std.proofs.Common.{◌≡◌, drop}
+use Rattle.std.proofs.Common.{◌≡◌, drop, find}
 use Rattle.std.specs.Str.{bytes_eq}
-use Rattle.std.proofs.Common.{find}
 use Rattle.program.specs.Kinds.{named, kinds}
 use Rattle.program.proofs.kind.Kind.of_name.Given as goal
 
