@@ -17,6 +17,7 @@ impl Buffer {
         ensures after { tasks_of self.new ≡ (if is_ok result then insert (frames_of u) (tasks_of self.old) else tasks_of self.old) }
         ensures kept { self.new.stack ≡ self.old.stack }
     {
+        // first, so that no key is reckoned for a full buffer
         if self.tasks.len() >= 6 {
             return Err(Full);
         }

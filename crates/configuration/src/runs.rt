@@ -12,8 +12,9 @@ use crate::task::Task;
 use fixed::fixed_vec::FixedVec;
 use fixed::full::Full;
 
-// A list of these frames, unless there are more than 3: by cases, since a copy whose length no case tells is a call.
-fn few(frames: &[Frame]) -> Result<FixedVec<Frame, 3>, Full>
+// A list of these frames, unless there are more than 3. (By cases, since a copy of as many frames as there are takes a
+// call, and so more than a third longer.)
+fn up_to_three(frames: &[Frame]) -> Result<FixedVec<Frame, 3>, Full>
     ensures { MatchResult result (λ v. listed v ≡ frames.now) (λ _. 3 < length frames.now) }
 {
     let blank = Frame::default();
@@ -57,7 +58,7 @@ impl<const N: usize> Frames<N> {
         }
         let base = self.frames.len() - count;
         let uppermost = &self.frames.as_slice()[base..];
-        let Ok(frames) = few(uppermost) else {
+        let Ok(frames) = up_to_three(uppermost) else {
             return None;
         };
         self.frames.truncate(base);
@@ -84,6 +85,7 @@ impl<const N: usize> Frames<N> {
                 self.frames.push(*b)?;
                 self.frames.push(*c)
             }
+            // none: no task has more than 3
             _ => Ok(()),
         }
     }
